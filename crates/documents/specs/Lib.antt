@@ -1,0 +1,9 @@
+pub mod Fields
+pub mod Judging
+pub mod Statements
+pub mod Reads
+pub mod Documents
+pub mod Drafts
+pub mod Accepted
+pub mod Refused
+pub mod Examples

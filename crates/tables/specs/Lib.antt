@@ -1,0 +1,12 @@
+pub mod Lists
+pub mod Decoded
+pub mod Limits
+pub mod Families
+pub mod Numbers
+pub mod Codes
+pub mod Lines
+pub mod Rows
+pub mod Rules
+pub mod Refusals
+pub mod Inverse
+pub mod Contents
