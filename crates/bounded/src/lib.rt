@@ -2,7 +2,7 @@
 // It knows nothing of what it holds, and never allocates.
 ghost use mathlib.Core.Path.{_≡_};
 ghost use mathlib.Core.List.{[], _∷_, _++_};
-ghost use Prim.Native.Nat.{_≤_};
+ghost use Prim.Native.Nat.{_≤_, min};
 ghost use lib.ListN.{length};
 ghost use Rattle.bounded.specs.Held.{held, Pushed};
 
@@ -41,7 +41,7 @@ impl<T: Copy, const N: usize> BoundedList<T, N> {
         ensures value { λ r. ⌜ now r ≡ held (now (self .entry)) ⌝ }
         ensures bound { λ r. ⌜ length (now r) ≤ N ⌝ }
     {
-        let n = self.len.min(self.room());
+        let n = self.filled();
         let all = &self.items[..];
         &all[0..n]
     }
@@ -52,6 +52,14 @@ impl<T: Copy, const N: usize> BoundedList<T, N> {
         ensures bound { λ r. ⌜ r ≤ N ⌝ }
     {
         self.as_slice().len()
+    }
+
+    // How much of the memory is in use.
+    fn filled(&self) -> usize
+        ensures value { λ r. ⌜ r ≡ min (now (self .entry) .len) N ⌝ }
+        ensures places { λ _. ⌜ length (now (self .entry) .items) ≡ N ⌝ }
+    {
+        self.len.min(self.room())
     }
 
     // N, and that the memory has that many places.

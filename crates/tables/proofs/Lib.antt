@@ -4,3 +4,4 @@ pub mod Options
 pub mod Cases
 pub mod Parts
 pub mod Inverse
+pub mod Spans

@@ -10,3 +10,4 @@ pub mod Rules
 pub mod Refusals
 pub mod Inverse
 pub mod Contents
+pub mod Spans

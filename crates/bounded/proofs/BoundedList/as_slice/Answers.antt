@@ -9,8 +9,8 @@ use Rattle.bounded.proofs.BoundedList.as_slice.Needs as need
 pub returns : need.returns
 returns g c =
     let xs = c .args .self .now .items in
-    let n : length xs ≡ g .N = c .room .ensures .places in
+    let n : length xs ≡ g .N = c .filled-n .ensures .places in
     record {
-      value = take-min xs (c .min-n .result - 0) (c .args .self .now .len) (omega arith);
+      value = take-min xs (c .filled-n .result - 0) (c .args .self .now .len) (omega arith);
       bound = search needs;
     }
