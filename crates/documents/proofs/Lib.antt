@@ -4,7 +4,6 @@ pub mod Looking
 pub mod Plans
 pub mod Taking
 pub mod Going
-pub mod Rooms
 pub mod Faults
 pub mod Leasts
 pub mod Ascending

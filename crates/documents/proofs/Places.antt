@@ -65,4 +65,4 @@ pub begins-there : (start : ℕ) (body : List ℕ) (before : List Piece) (p : Pi
 begins-there start body before p after e =
     let s = stands start 0 body before p after e in
     let here = s .here in
-    record { before = before; piece = p; after = after; split = e; whole = s .whole; here = omega arith }
+    record { before = before; piece = p; after = after; split = e; is = refl; whole = s .whole; here = omega arith }

@@ -77,6 +77,7 @@ pub record Begins (start : ℕ) (body : List ℕ) (place : ℕ) : Type 0 where
   pub piece : Piece
   pub after : List Piece
   pub split : pieces start 0 body ≡ before ++ piece ∷ after
+  pub is : place ≡ place-of piece
   pub whole : Whole before
   pub here : place ≡ start + whole-size before
 

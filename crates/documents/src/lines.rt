@@ -12,6 +12,7 @@ use tables::codes::lines::TestCodes;
 use tables::test::Join;
 use tables::test::JoinedTest;
 use tables::test::Test;
+use tables::time::Tenths;
 
 /// The test that a body of seven bytes holds, where each value is in range.
 pub(crate) fn test_in(body: &[u8]) -> Option<JoinedTest>
@@ -40,17 +41,17 @@ pub(crate) fn action_in(body: &[u8]) -> Option<Action>
     })
 }
 
-/// The tenths that an action adds to the waits of those below it.
-pub(crate) fn delay_of(action: Action) -> u16
-    ensures { λ r. ⌜ r ≡ delay action ⌝ }
+/// The time that an action adds to the waits of those below it.
+pub(crate) fn delay_of(action: Action) -> Tenths
+    ensures { λ r. ⌜ r .0 ≡ delay action ⌝ }
 {
     match action {
-        Action::Delay(tenths) => tenths.0,
-        _ => 0,
+        Action::Delay(tenths) => tenths,
+        _ => Tenths(0),
     }
 }
 
-/// The sum of the DELAYs among some actions.
+/// The sum of the DELAYs among some actions, in tenths.
 pub(crate) fn sum_of_delays(actions: &[Action]) -> u32
     requires { ⌜ length (now actions) ≤ max-actions ⌝ }
     ensures value { λ r. ⌜ r ≡ delays (now (actions .entry)) ⌝ }
@@ -58,7 +59,7 @@ pub(crate) fn sum_of_delays(actions: &[Action]) -> u32
 {
     let mut sum = 0;
     for action in actions {
-        sum += u32::from(delay_of(*action));
+        sum += u32::from(delay_of(*action).0);
     }
     sum
 }

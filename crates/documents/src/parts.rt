@@ -99,7 +99,7 @@ pub(crate) fn read_action(place: usize, due: bool, above: &[Action], body: &[u8]
     let Some(value) = action_in(body) else {
         return Err(Refusal::OutOfRange(place));
     };
-    if sum_of_delays(above) + u32::from(delay_of(value)) > u32::from(MAX_DELAY) {
+    if sum_of_delays(above) + u32::from(delay_of(value).0) > u32::from(MAX_DELAY) {
         return Err(Refusal::DelaysTooLong(place));
     }
     Ok(Placed { place, value })

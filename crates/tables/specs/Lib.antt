@@ -8,6 +8,7 @@ pub mod Lines
 pub mod Rows
 pub mod Rules
 pub mod Refusals
+pub mod RefusalTexts
 pub mod Inverse
 pub mod Contents
 pub mod Spans

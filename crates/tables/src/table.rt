@@ -1,7 +1,10 @@
 // A table of statements that keeps every rule: its type says so, and no other value of it can be made.
 ghost use mathlib.Core.Path.{_≡_};
 ghost use mathlib.Core.Bool.{true};
+ghost use Prim.Native.Nat.{_≤_};
+ghost use lib.ListN.{length};
 ghost use Rattle.bounded.specs.Held.{held};
+ghost use Rattle.tables.specs.Limits.{last-name};
 ghost use Rattle.tables.specs.Rows.{table-rows};
 ghost use Rattle.tables.specs.Rules.{table-keeps};
 use crate::limits::MAX_NAMES;
@@ -29,14 +32,16 @@ impl Table {
 
     /// The statements, in their order.
     pub fn statements(&self) -> &[Statement]
-        ensures { λ r. ⌜ now r ≡ held (now (self .entry) .statements) ⌝ }
+        ensures value { λ r. ⌜ now r ≡ held (now (self .entry) .statements) ⌝ }
+        ensures bound { λ r. ⌜ length (now r) ≤ last-name ⌝ }
     {
         self.statements.as_slice()
     }
 
     /// The plans, by rising number.
     pub fn plans(&self) -> &[Plan]
-        ensures { λ r. ⌜ now r ≡ held (now (self .entry) .plans) ⌝ }
+        ensures value { λ r. ⌜ now r ≡ held (now (self .entry) .plans) ⌝ }
+        ensures bound { λ r. ⌜ length (now r) ≤ last-name ⌝ }
     {
         self.plans.as_slice()
     }

@@ -14,7 +14,7 @@ delays-more xs i n d h is = at-drop-more delays xs i d h ∙ ap (λ m. m + delay
 
 pub loop-action-again : need.loop-action-again
 loop-action-again c =
-    let e = delays-more (c .args .actions .now) (c .loop-action .action-index) (c .delay-of .result) _ (omega arith) (c .delay-of .ensures) in
+    let e = delays-more (c .args .actions .now) (c .loop-action .action-index) (c .delay-of .result .0) _ (omega arith) (c .delay-of .ensures) in
     (omega arith, omega arith)
 
 pub returns : need.returns

@@ -3,29 +3,30 @@ use mathlib.Core.List.{List, [], _∷_, _++_}
 use Prim.Native.Nat.{_<_}
 use native.Mathlib.Omega.{arith}
 use lib.ListN.{length}
+use Rattle.std.proofs.shelf.Tests.{leb-false}
 use Rattle.bounded.specs.Held.{held}
 use Rattle.tables.specs.Limits.{max-tests, max-actions}
 use Rattle.tables.specs.Rows.{statement-row}
 use Rattle.documents.specs.Judging.{first, at}
 use Rattle.documents.specs.Statements.{test-rules, action-rules}
 use Rattle.documents.specs.Reads.{names-of}
-use Rattle.documents.proofs.Rooms.{test-room, action-room}
+use Rattle.documents.proofs.Passing.{test-passes, action-passes}
 use Rattle.documents.proofs.Taking.{fault-name, fault-mark, fault-test, fault-then, fault-else, took-name, took-mark, took-test, took-then, took-else}
 use Rattle.documents.proofs.statement.take_part.Needs as need
 
 pub returns-in-Break-add : need.returns-in-Break-add
 returns-in-Break-add c = λ before same l.
-    let room : c .len .result < max-tests = test-room (c .args .last) (c .len .result) (c .args .body .now) (c .in-Continue-test .ensures tt .0) in
+    let room : c .len .result < max-tests = leb-false max-tests (c .len .result) (test-passes (c .args .last) (c .len .result) (c .args .body .now) (c .in-Continue-test .ensures tt .0) .few) in
     absurd (omega (arith, c .in-Break-add .ensures tt, c .len .ensures .value))
 
 pub returns-in-Break-add-2 : need.returns-in-Break-add-2
 returns-in-Break-add-2 c = λ before same l.
-    let room : length (c .as-slice .result .now) < max-actions = action-room (c .follows-due .result) (c .as-slice .result .now) (c .args .body .now) (c .in-Continue-action .ensures tt .0) in
+    let room : length (c .as-slice .result .now) < max-actions = leb-false max-actions (length (c .as-slice .result .now)) (action-passes (c .follows-due .result) (c .as-slice .result .now) (c .args .body .now) (c .in-Continue-action .ensures tt .0) .few) in
     absurd (omega (arith, c .in-Break-add-2 .ensures tt, ap length (c .as-slice .ensures .value)))
 
 pub returns-in-Break-add-3 : need.returns-in-Break-add-3
 returns-in-Break-add-3 c = λ before same l.
-    let room : length (c .as-slice-in-20 .result .now) < max-actions = action-room (c .follows-due-in-20 .result) (c .as-slice-in-20 .result .now) (c .args .body .now) (c .in-Continue-action-2 .ensures tt .0) in
+    let room : length (c .as-slice-in-20 .result .now) < max-actions = leb-false max-actions (length (c .as-slice-in-20 .result .now)) (action-passes (c .follows-due-in-20 .result) (c .as-slice-in-20 .result .now) (c .args .body .now) (c .in-Continue-action-2 .ensures tt .0) .few) in
     absurd (omega (arith, c .in-Break-add-3 .ensures tt, ap length (c .as-slice-in-20 .ensures .value)))
 
 pub returns-in-Continue-s : need.returns-in-Continue-s
