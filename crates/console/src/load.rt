@@ -31,7 +31,10 @@ pub fn load_line(document: &[u8]) -> LoadLine
     ensures { λ r. ⌜ r ≡ loaded (reading (now (document .entry))) ⌝ }
 {
     match read_document(document) {
-        Ok(_) => LoadLine { number: 0, place: 0 },
+        Ok(_) => LoadLine {
+            number: 0,
+            place: 0,
+        },
         Err(refusal) => LoadLine {
             number: refusal.number(),
             place: refusal.place().unwrap_or(0),

@@ -14,11 +14,18 @@ first-fault-place : (doc : List ℕ) (t : Told) → First-fault doc t
     → (place : ℕ) × (t .values ≡ at-place place) × ((place ≡ 0) ⊎ (Begins 0 doc place ⊎ Begins-inside doc place))
 first-fault-place doc _ (own before p after number split clean least) =
     (place-of p, refl, inr (inl (begins-there 0 doc before p after split)))
-first-fault-place doc _ (inner before place body after split clean free above p below number parts sound least) =
-    (place-of p, refl, inr (inr (record {
-      before = before; start = place; body = body; after = after; split = split;
-      inside = begins-there (place + 3) body above p below parts;
-    })))
+first-fault-place doc _ (inner before place body after split clean free above p below number parts sound least) = (
+  place-of p,
+  refl,
+  inr (inr (record {
+    before = before;
+    start = place;
+    body = body;
+    after = after;
+    split = split;
+    inside = begins-there (place + 3) body above p below parts;
+  })),
+)
 first-fault-place doc _ (lacking before place body after split clean free sound low) =
     (place, refl, inr (inl (begins-there 0 doc before (field place 2 body) after split)))
 first-fault-place doc _ (empty none) = (0, refl, inl refl)

@@ -39,16 +39,16 @@ module _ (doc : List ℕ) (t : Told) (before after : List Piece) (clean : Clean 
       let free = none-applies (top-rules before (field place 2 body)) sound in
       ⊎-elim
       (λ here.
-        let both = first-found (part-fault used) parts t here in
-        let f = both .0 in
-        let s = at-some (place-of (f .piece)) (first (part-rules used (f .before) (f .piece))) t (f .bad) in
-        subst (First-fault doc) (s .2)
-          (inner before place body after split clean free (f .before) (f .piece) (f .after) (s .0) (f .split) (both .1)
-            (first-is-least (part-rules used (f .before) (f .piece)) (s .0) (part-ascends used (f .before) (f .piece)) (s .1))))
+      let both = first-found (part-fault used) parts t here in
+      let f = both .0 in
+      let s = at-some (place-of (f .piece)) (first (part-rules used (f .before) (f .piece))) t (f .bad) in
+      subst (First-fault doc) (s .2)
+      (inner before place body after split clean free (f .before) (f .piece) (f .after) (s .0) (f .split) (both .1)
+      (first-is-least (part-rules used (f .before) (f .piece)) (s .0) (part-ascends used (f .before) (f .piece)) (s .1))))
       (λ rest.
-        let s = test-failed (leb 18 (last-tag parts)) (refused-at 2 place) t (rest .1) in
-        subst (First-fault doc) (s .1)
-          (lacking before place body after split clean free (none-is-clean (part-fault used) parts (rest .0)) (leb-false 18 (last-tag parts) (s .0))))
+      let s = test-failed (leb 18 (last-tag parts)) (refused-at 2 place) t (rest .1) in
+      subst (First-fault doc) (s .1)
+      (lacking before place body after split clean free (none-is-clean (part-fault used) parts (rest .0)) (leb-false 18 (last-tag parts) (s .0))))
       (one-or-other (first-fault (part-fault used) [] parts) (unfinished place (last-tag parts)) t e)
 
   -- the piece at fault is not so itself, but inside
@@ -58,9 +58,9 @@ module _ (doc : List ℕ) (t : Told) (before after : List Piece) (clean : Clean 
       let h = test-held (eqb tag 2) (statement-fault (names-in before) place body) t e in
       let is = eqb-true tag 2 (h .0) in
       in-statement place body
-        (subst (λ n. pieces 0 0 doc ≡ before ++ field place n body ∷ after) is split)
-        (subst (λ n. first (top-rules before (field place n body)) ≡ None) is sound)
-        (h .1)
+      (subst (λ n. pieces 0 0 doc ≡ before ++ field place n body ∷ after) is split)
+      (subst (λ n. first (top-rules before (field place n body)) ≡ None) is sound)
+      (h .1)
 
   -- the piece at fault is so itself or inside
   by-piece : (p : Piece) → pieces 0 0 doc ≡ before ++ p ∷ after → top-fault before p ≡ Some t → First-fault doc t
@@ -76,12 +76,12 @@ fault-is-first doc t e =
     let ps = pieces 0 0 doc in
     ⊎-elim
     (λ here.
-      let both = first-found top-fault ps t here in
-      let f = both .0 in
-      by-piece doc t (f .before) (f .after) (both .1) (f .piece) (f .split) (f .bad))
+    let both = first-found top-fault ps t here in
+    let f = both .0 in
+    by-piece doc t (f .before) (f .after) (both .1) (f .piece) (f .split) (f .bad))
     (λ rest.
-      let s = test-failed (leb 1 (last-tag ps)) (refused-at 2 0) t (rest .1) in
-      subst (First-fault doc) (s .1) (empty (empty-document doc (rest .0) (leb-false 1 (last-tag ps) (s .0)))))
+    let s = test-failed (leb 1 (last-tag ps)) (refused-at 2 0) t (rest .1) in
+    subst (First-fault doc) (s .1) (empty (empty-document doc (rest .0) (leb-false 1 (last-tag ps) (s .0)))))
     (one-or-other (first-fault top-fault [] ps) (no-version (last-tag ps)) t e)
 
 -- a refusal is of a fault

@@ -49,7 +49,9 @@ module _ (fault : List Piece → Piece → Option Told) where
   found-one q ps passed t None is more e =
       let h = more e in
       record {
-        before = q ∷ h .before; piece = h .piece; after = h .after;
+        before = q ∷ h .before;
+        piece = h .piece;
+        after = h .after;
         split = ap (λ l. q ∷ l) (h .split);
         none = ap (λ o. or-else o (first-fault fault (passed ++ q ∷ []) (h .before))) is ∙ h .none;
         bad = subst (λ l. fault l (h .piece) ≡ Some t) (append-assoc passed (q ∷ []) (h .before)) (h .bad);

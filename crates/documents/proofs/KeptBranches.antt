@@ -35,10 +35,10 @@ branch-push : (before : List Action) (a : Action) → branch-keeps before ≡ tr
 branch-push before a keeps few this short =
     let all = and-parts (every action-keeps before) (leb (delays before) max-delay) (and-parts (leb (length before) max-actions) (every action-keeps before && leb (delays before) max-delay) keeps .1) .0 in
     and-from (leb (length (before ++ a ∷ [])) max-actions) (every action-keeps (before ++ a ∷ []) && leb (delays (before ++ a ∷ [])) max-delay)
-      (one-more-fits max-actions before a few)
-      (and-from (every action-keeps (before ++ a ∷ [])) (leb (delays (before ++ a ∷ [])) max-delay)
-        (every-push action-keeps before a all this)
-        (not-above max-delay (delays (before ++ a ∷ [])) short))
+    (one-more-fits max-actions before a few)
+    (and-from (every action-keeps (before ++ a ∷ [])) (leb (delays (before ++ a ∷ [])) max-delay)
+    (every-push action-keeps before a all this)
+    (not-above max-delay (delays (before ++ a ∷ [])) short))
 
 -- a branch without actions keeps the rules
 branch-none : branch-keeps [] ≡ true
@@ -61,7 +61,7 @@ module _ (t : ℕ) (before : List Piece) (place : ℕ) (body : List ℕ) where
       let a = value-there (action-in body) (h .there) in
       let short = subst (λ o. ltb max-delay (delays (actions-in t before ++ listed o)) ≡ false) (a .1) (h .short) in
       subst (λ l. branch-keeps l ≡ true) (sym (value-more place body before action-in t (a .0) is (a .1)))
-        (branch-push (actions-in t before) (a .0) so (h .few) (action-in-keeps body (a .0) (a .1)) short)
+      (branch-push (actions-in t before) (a .0) so (h .few) (action-in-keeps body (a .0) (a .1)) short)
 
 module _ (used : List ℕ) (ps : List Piece) (none : first-fault (part-fault used) [] ps ≡ None) where
   -- the THEN actions of a body without fault

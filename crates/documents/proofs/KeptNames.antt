@@ -38,8 +38,8 @@ module _ (used : List ℕ) where
   named-steps : Part-steps used (Named used)
   named-steps = record {
     name = λ before place body h so.
-      let is = ap (latest 0) (said-more name-in 16 place body before refl) ∙ latest-push 0 (map name-in (bodies 16 before)) (name-in body) in
-      λ _. subst (Fresh used) (sym is) (h .in-range, h .unused);
+        let is = ap (latest 0) (said-more name-in 16 place body before refl) ∙ latest-push 0 (map name-in (bodies 16 before)) (name-in body) in
+        λ _. subst (Fresh used) (sym is) (h .in-range, h .unused);
     mark = λ before place body h so. let e = eqb-true (last-tag before) 16 (h .due) in unnamed before place 17 body refl (omega arith) so;
     test = λ before place body h so. unnamed before place 18 body refl (due-after 16 (last-tag before) 18 (h .due)) so;
     thens = λ before place body h so. let e = due-after 18 (last-tag before) 19 (h .in-turn) in unnamed before place 19 body refl (omega arith) so;

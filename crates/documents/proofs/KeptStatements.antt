@@ -50,4 +50,4 @@ pub statement-kept : (used : List ℕ) (place : ℕ) (body : List ℕ) → state
 statement-kept used place body none =
     let two = both-none (first-fault (part-fault used) [] (pieces (place + 3) 0 body)) (unfinished place (last-tag (pieces (place + 3) 0 body))) none in
     subst (λ (r : StatementRow). (statement-keeps r ≡ true) × (member (r .name) used ≡ false)) (statement-place (place + 3) 0 body)
-      (pieces-kept used (pieces (place + 3) 0 body) (two .0) (finished place (last-tag (pieces (place + 3) 0 body)) (two .1)))
+    (pieces-kept used (pieces (place + 3) 0 body) (two .0) (finished place (last-tag (pieces (place + 3) 0 body)) (two .1)))

@@ -63,7 +63,7 @@ kept-statement statements plans s so keeps unused =
       each = every-push statement-keeps statements s (so .each) keeps;
       apart = subst (λ ns. distinct ns ≡ true) (sym names) (distinct-push (map row-name statements) (s .name) (so .apart) unused);
       planned = subst (λ ns. every (plan-keeps ns) plans ≡ true) (sym names)
-        (every-weaker (plan-keeps (map row-name statements)) (plan-keeps (map row-name statements ++ s .name ∷ [])) (plan-still (map row-name statements) (s .name)) plans (so .planned));
+          (every-weaker (plan-keeps (map row-name statements)) (plan-keeps (map row-name statements ++ s .name ∷ [])) (plan-still (map row-name statements) (s .name)) plans (so .planned));
       rises = so .rises;
     }
 
@@ -82,10 +82,10 @@ rows-keep : (statements : List StatementRow) (plans : List PlanRow) → Rows-kep
 unfolding table-keeps
 rows-keep statements plans so =
     let named : every (λ s. counted-to last-name (row-name s)) statements ≡ true =
-      every-weaker statement-keeps (λ s. counted-to last-name (row-name s)) (λ s keeps. and-parts (counted-to last-name (s .name)) _ keeps .0) statements (so .each) in
+    every-weaker statement-keeps (λ s. counted-to last-name (row-name s)) (λ s keeps. and-parts (counted-to last-name (s .name)) _ keeps .0) statements (so .each) in
     let names = distinct-at-most last-name (map row-name statements) (every-map (counted-to last-name) row-name statements named) (so .apart) in
     let numbered : every (λ p. counted-to last-name (row-number p)) plans ≡ true =
-      every-weaker (plan-keeps (map row-name statements)) (λ p. counted-to last-name (row-number p)) (λ p keeps. and-parts (counted-to last-name (p .number)) _ keeps .0) plans (so .planned) in
+    every-weaker (plan-keeps (map row-name statements)) (λ p. counted-to last-name (row-number p)) (λ p keeps. and-parts (counted-to last-name (p .number)) _ keeps .0) plans (so .planned) in
     let numbers = rising-at-most last-name (map row-number plans) (every-map (counted-to last-name) row-number plans numbered) (so .rises) in
     and-from (leb (length statements) last-name) _ (le-leb (length statements) last-name (subst (λ n. n ≤ last-name) (length-map statements row-name) names))
     (and-from (every statement-keeps statements) _ (so .each)
@@ -103,21 +103,21 @@ Tables-kept ps = Rows-kept (table-in ps .statements) (table-in ps .plans)
 tables-steps : Top-steps Tables-kept
 tables-steps = record {
   version = λ before place body h so.
-    subst (λ bs. Rows-kept (map row-in bs) (table-in (before ++ field place 1 body ∷ []) .plans)) (sym (same place body before 2 1 refl))
-    (subst (λ bs. Rows-kept (table-in before .statements) (map plan-in bs)) (sym (same place body before 3 1 refl)) so);
+      subst (λ bs. Rows-kept (map row-in bs) (table-in (before ++ field place 1 body ∷ []) .plans)) (sym (same place body before 2 1 refl))
+      (subst (λ bs. Rows-kept (table-in before .statements) (map plan-in bs)) (sym (same place body before 3 1 refl)) so);
   statement = λ before place body due none so.
-    let s = statement-kept (names-in before) place body none in
-    subst (λ ss. Rows-kept ss (table-in (before ++ field place 2 body ∷ []) .plans)) (sym (said-more row-in 2 place body before refl))
-    (subst (λ bs. Rows-kept (table-in before .statements ++ row-in body ∷ []) (map plan-in bs)) (sym (same place body before 3 2 refl))
-    (kept-statement (table-in before .statements) (table-in before .plans) (row-in body) so (s .0) (s .1)));
+      let s = statement-kept (names-in before) place body none in
+      subst (λ ss. Rows-kept ss (table-in (before ++ field place 2 body ∷ []) .plans)) (sym (said-more row-in 2 place body before refl))
+      (subst (λ bs. Rows-kept (table-in before .statements ++ row-in body ∷ []) (map plan-in bs)) (sym (same place body before 3 2 refl))
+      (kept-statement (table-in before .statements) (table-in before .plans) (row-in body) so (s .0) (s .1)));
   plan = λ before place body h so.
-    subst (λ bs. Rows-kept (map row-in bs) (table-in (before ++ field place 3 body ∷ []) .plans)) (sym (same place body before 2 3 refl))
-    (subst (Rows-kept (table-in before .statements)) (sym (said-more plan-in 3 place body before refl))
-    (kept-plan (table-in before .statements) (table-in before .plans) (plan-in body) so (plan-kept (last-tag before) (last-plan before) (names-in before) body h) (h .rises)));
+      subst (λ bs. Rows-kept (map row-in bs) (table-in (before ++ field place 3 body ∷ []) .plans)) (sym (same place body before 2 3 refl))
+      (subst (Rows-kept (table-in before .statements)) (sym (said-more plan-in 3 place body before refl))
+      (kept-plan (table-in before .statements) (table-in before .plans) (plan-in body) so (plan-kept (last-tag before) (last-plan before) (names-in before) body h) (h .rises)));
 }
 
 -- the table that pieces without fault say keeps every rule
 pub clean-pieces-keep-the-rules : (ps : List Piece) → first-fault top-fault [] ps ≡ None → table-keeps (table-in ps) ≡ true
 clean-pieces-keep-the-rules ps none =
     rows-keep (table-in ps .statements) (table-in ps .plans)
-      (tops-faultless Tables-kept tables-steps ps none (record { each = refl; apart = refl; planned = refl; rises = refl }))
+    (tops-faultless Tables-kept tables-steps ps none (record { each = refl; apart = refl; planned = refl; rises = refl }))

@@ -42,9 +42,10 @@ test-in-keeps : (body : List ℕ) (t : JoinedTest) → test-in body ≡ Some t �
 unfolding test-in
 test-in-keeps body t is =
     let two = both-was joined-test (join-of (byte body 0)) (test-of (test-codes-in body)) t is in
-    let code = decoded-has-code join-code (First ∷ And ∷ Or ∷ []) (byte body 0) (two .0) (two .2) .0 in
-    (ap (λ c. eqb c 0) (sym code) ∙ begins-at (two .0) ∙ ap (λ (u : JoinedTest). begins (u .join)) (two .4),
-    subst (λ (u : JoinedTest). test-keeps (u .test) ≡ true) (two .4) (test-of-keeps (test-codes-in body) (two .1) (two .3) .1))
+    let code = decoded-has-code join-code (First ∷ And ∷ Or ∷ []) (byte body 0) (two .0) (two .2) .0 in (
+      ap (λ c. eqb c 0) (sym code) ∙ begins-at (two .0) ∙ ap (λ (u : JoinedTest). begins (u .join)) (two .4),
+      subst (λ (u : JoinedTest). test-keeps (u .test) ≡ true) (two .4) (test-of-keeps (test-codes-in body) (two .1) (two .3) .1),
+    )
 
 -- ---- one test more
 
@@ -55,7 +56,7 @@ joins-push (u ∷ ts) t keep this =
     let later = subst (λ b. alike b (begins (t .join)) ≡ true) (eqb·suc-zero (length ts)) this in
     let two = and-parts (begins (u .join)) (every (λ v. not (begins (v .join))) ts) keep in
     and-from (begins (u .join)) (every (λ v. not (begins (v .join))) (ts ++ t ∷ [])) (two .0)
-      (every-push (λ v. not (begins (v .join))) ts t (two .1) later)
+    (every-push (λ v. not (begins (v .join))) ts t (two .1) later)
 
 -- tests that keep their rules, where `last` is the tag of the field before
 record Tests-keep (ts : List JoinedTest) (last : ℕ) : Type 0 where

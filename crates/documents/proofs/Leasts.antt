@@ -58,16 +58,16 @@ first-at-most (r ∷ rs) floor number up e other there =
     let two = and-parts (leb floor (r .1)) (ascends (r .1) rs) up in
     ⊎-elim
     (λ is.
-      let s = cond-true (r .0) (Some (r .1)) (first rs) is in
-      let n : r .1 ≡ number = cc in
-      let le : r .1 ≤ other = ⊎-elim (λ same. let o : r .1 ≡ other = ap (λ x. x .1) same in omega arith) (λ far. above-floor rs (r .1) (two .1) other far) there in
-      omega arith)
+    let s = cond-true (r .0) (Some (r .1)) (first rs) is in
+    let n : r .1 ≡ number = cc in
+    let le : r .1 ≤ other = ⊎-elim (λ same. let o : r .1 ≡ other = ap (λ x. x .1) same in omega arith) (λ far. above-floor rs (r .1) (two .1) other far) there in
+    omega arith)
     (λ isnt.
-      let rest = sym (cond-false (r .0) (Some (r .1)) (first rs) isnt) ∙ e in
-      ⊎-elim
-      (λ same. absurd (both-ways (r .0) isnt (ap (λ x. x .0) same)))
-      (λ far. first-at-most rs (r .1) number (two .1) rest other far)
-      there)
+    let rest = sym (cond-false (r .0) (Some (r .1)) (first rs) isnt) ∙ e in
+    ⊎-elim
+    (λ same. absurd (both-ways (r .0) isnt (ap (λ x. x .0) same)))
+    (λ far. first-at-most rs (r .1) number (two .1) rest other far)
+    there)
     (cases-bool (r .0))
 
 -- the first number of an ascending list is the least that applies

@@ -28,15 +28,15 @@ module _ (used : List ℕ) (P : List Piece → Type 0) (steps : Part-steps used 
       let C : ℕ → Type 0 = λ t. P (before ++ field place t body ∷ []) in
       let last : ℕ = last-tag before in
       by-tag tag 16 C _ _ (at-none place (first (part-rules used before (field place tag body))) none)
-        (λ n. steps .name before place body (name-passes used last body n) so)
+      (λ n. steps .name before place body (name-passes used last body n) so)
       (λ r. by-tag tag 17 C _ _ r
-        (λ n. steps .mark before place body (mark-passes last body n) so)
+      (λ n. steps .mark before place body (mark-passes last body n) so)
       (λ r. by-tag tag 18 C _ _ r
-        (λ n. steps .test before place body (test-passes last (length (tests-in before)) body n) so)
+      (λ n. steps .test before place body (test-passes last (length (tests-in before)) body n) so)
       (λ r. by-tag tag 19 C _ _ r
-        (λ n. steps .thens before place body (action-passes (then-due last) (actions-in 19 before) body n) so)
+      (λ n. steps .thens before place body (action-passes (then-due last) (actions-in 19 before) body n) so)
       (λ r. by-tag tag 20 C _ _ r
-        (λ n. steps .elses before place body (action-passes (else-due last) (actions-in 20 before) body n) so)
+      (λ n. steps .elses before place body (action-passes (else-due last) (actions-in 20 before) body n) so)
       (λ r. let z : _≡_ {A = ℕ} 0 1 = cc in absurd (omega arith))))))
 
   -- so P goes from the start of a body without fault to its end

@@ -39,10 +39,10 @@ without-length x (y ∷ ys) apart =
     let two = and-parts (not (member y ys)) (distinct ys) apart in
     let out = not-true (member y ys) (two .0) in
     cond-both (eqb x y) (without x ys) (y ∷ without x ys) (λ l. suc (length ys) ≤ length l + 1)
-      (λ is.
-        let same = ap length (without-none x ys (subst (λ z. member z ys ≡ false) (sym (eqb-true x y is)) out)) in
-        omega arith)
-      (λ isnt. let rest = without-length x ys (two .1) in omega arith)
+    (λ is.
+    let same = ap length (without-none x ys (subst (λ z. member z ys ≡ false) (sym (eqb-true x y is)) out)) in
+    omega arith)
+    (λ isnt. let rest = without-length x ys (two .1) in omega arith)
 
 -- a number that is not in a list is not in what is left of it
 without-member : (z x : ℕ) (ys : List ℕ) → member z ys ≡ false → member z (without x ys) ≡ false
@@ -51,8 +51,8 @@ without-member z x (y ∷ ys) out =
     let two = or-parts (eqb z y) (member z ys) out in
     let rest = without-member z x ys (two .1) in
     cond-both (eqb x y) (without x ys) (y ∷ without x ys) (λ l. member z l ≡ false)
-      (λ is. rest)
-      (λ isnt. or-from (eqb z y) (member z (without x ys)) (two .0) rest)
+    (λ is. rest)
+    (λ isnt. or-from (eqb z y) (member z (without x ys)) (two .0) rest)
 
 -- what is left of numbers that all differ differs
 without-distinct : (x : ℕ) (ys : List ℕ) → distinct ys ≡ true → distinct (without x ys) ≡ true
@@ -62,8 +62,8 @@ without-distinct x (y ∷ ys) apart =
     let rest = without-distinct x ys (two .1) in
     let out = without-member y x ys (not-true (member y ys) (two .0)) in
     cond-both (eqb x y) (without x ys) (y ∷ without x ys) (λ l. distinct l ≡ true)
-      (λ is. rest)
-      (λ isnt. and-from (not (member y (without x ys))) (distinct (without x ys)) (not-from-false (member y (without x ys)) out) rest)
+    (λ is. rest)
+    (λ isnt. and-from (not (member y (without x ys))) (distinct (without x ys)) (not-from-false (member y (without x ys)) out) rest)
 
 -- without the greatest, numbers from 1 to n + 1 are from 1 to n
 without-greatest : (n : ℕ) (ys : List ℕ) → every (counted-to (suc n)) ys ≡ true → every (counted-to n) (without (suc n) ys) ≡ true
@@ -73,10 +73,10 @@ without-greatest n (y ∷ ys) all =
     let rest = without-greatest n ys (two .1) in
     let bounds = counted-bounds (suc n) y (two .0) in
     cond-both (eqb (suc n) y) (without (suc n) ys) (y ∷ without (suc n) ys) (λ l. every (counted-to n) l ≡ true)
-      (λ is. rest)
-      (λ isnt.
-        let less : y ≤ n = omega (arith, eqb-false (suc n) y isnt) in
-        and-from (counted-to n y) (every (counted-to n) (without (suc n) ys)) (counted-between n y (bounds .0) less) rest)
+    (λ is. rest)
+    (λ isnt.
+    let less : y ≤ n = omega (arith, eqb-false (suc n) y isnt) in
+    and-from (counted-to n y) (every (counted-to n) (without (suc n) ys)) (counted-between n y (bounds .0) less) rest)
 
 -- numbers from 1 to n that all differ are at most n
 pub distinct-at-most : (n : ℕ) (ms : List ℕ) → every (counted-to n) ms ≡ true → distinct ms ≡ true → length ms ≤ n

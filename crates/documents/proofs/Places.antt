@@ -53,10 +53,10 @@ stands place zero (tag ∷ high ∷ low ∷ bs) before p after e =
     subst (λ s. Stands s before p) same
     (⊎-elim
     (λ is.
-      after-field place tag (wide high low) (take (wide high low) bs) (pieces (place + 3) (wide high low) bs) before p after
-      (length-take-le (wide high low) bs (leb-true (wide high low) (length bs) is))
-      (λ above s. stands (place + 3) (wide high low) bs above p after s)
-      (sym (cond-true (leb (wide high low) (length bs)) _ _ is) ∙ e))
+    after-field place tag (wide high low) (take (wide high low) bs) (pieces (place + 3) (wide high low) bs) before p after
+    (length-take-le (wide high low) bs (leb-true (wide high low) (length bs) is))
+    (λ above s. stands (place + 3) (wide high low) bs above p after s)
+    (sym (cond-true (leb (wide high low) (length bs)) _ _ is) ∙ e))
     (λ isnt. alone place before p (cut place) after refl (sym (cond-false (leb (wide high low) (length bs)) _ _ isnt) ∙ e))
     (cases-bool (leb (wide high low) (length bs))))
 

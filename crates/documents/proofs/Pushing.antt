@@ -48,8 +48,8 @@ pub member-push : (n : ℕ) (ms : List ℕ) (m : ℕ) → member n ms ≡ true �
 member-push n [] m in′ = let z : _≡_ {A = ℕ} 0 1 = cc in absurd (omega arith)
 member-push n (k ∷ ms) m in′ =
     elim (or-cases (eqb n k) (member n ms) in′) [
-      inl here ↦ or-left (eqb n k) (member n (ms ++ m ∷ [])) here
-    | inr there ↦ or-right (eqb n k) (member n (ms ++ m ∷ [])) (member-push n ms m there)
+      | inl here ↦ or-left (eqb n k) (member n (ms ++ m ∷ [])) here
+      | inr there ↦ or-right (eqb n k) (member n (ms ++ m ∷ [])) (member-push n ms m there)
     ]
 
 -- what is neither in a list nor the added number is not in both together
@@ -68,8 +68,8 @@ distinct-push (k ∷ ms) m apart out =
     let other : eqb k m ≡ false = ne-eqb k m (λ e. eqb-false m k (neither .0) (sym e)) in
     let still = not-member-push k ms m (not-true (member k ms) (two .0)) other in
     and-from (not (member k (ms ++ m ∷ []))) (distinct (ms ++ m ∷ []))
-      (not-from-false (member k (ms ++ m ∷ [])) still)
-      (distinct-push ms m (two .1) (neither .1))
+    (not-from-false (member k (ms ++ m ∷ [])) still)
+    (distinct-push ms m (two .1) (neither .1))
 
 -- numbers that rise, and one above the last of them, rise
 pub rising-push : (floor : ℕ) (ms : List ℕ) (m : ℕ) → rising floor ms ≡ true → ltb (latest floor ms) m ≡ true → rising floor (ms ++ m ∷ []) ≡ true

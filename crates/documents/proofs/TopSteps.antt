@@ -29,11 +29,11 @@ module _ (P : List Piece → Type 0) (steps : Top-steps P) where
       let C : ℕ → Type 0 = λ t. inner-fault before (field place t body) ≡ None → P (before ++ field place t body ∷ []) in
       let last : ℕ = last-tag before in
       by-tag tag 1 C _ _ (at-none place (first (top-rules before (field place tag body))) (two .0))
-        (λ n inner. steps .version before place body (version-passes last body n) so)
+      (λ n inner. steps .version before place body (version-passes last body n) so)
       (λ r. by-tag tag 2 C _ _ r
-        (λ n inner. steps .statement before place body (not-false (statement-due last) (none-holds ((not (statement-due last), 2) ∷ []) n .0)) inner so)
+      (λ n inner. steps .statement before place body (not-false (statement-due last) (none-holds ((not (statement-due last), 2) ∷ []) n .0)) inner so)
       (λ r. by-tag tag 3 C _ _ r
-        (λ n inner. steps .plan before place body (plan-passes last (last-plan before) (names-in before) body n) so)
+      (λ n inner. steps .plan before place body (plan-passes last (last-plan before) (names-in before) body n) so)
       (λ r. let z : _≡_ {A = ℕ} 0 1 = cc in absurd (omega arith))))
       (two .1)
 

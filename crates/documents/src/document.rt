@@ -11,7 +11,6 @@ ghost use Rattle.documents.specs.Judging.{first, at};
 ghost use Rattle.documents.specs.Documents.{version-rules, reading};
 ghost use Rattle.documents.specs.Drafts.{Added};
 ghost use Rattle.documents.specs.Refused.{First-fault, At-a-field};
-
 use crate::draft::Draft;
 use crate::field::next_field;
 use crate::placed::Placed;
@@ -45,7 +44,13 @@ fn read_version(place: usize, last: u8, body: &[u8]) -> Result<(), Refusal>
 }
 
 /// Takes one field of a document into the table under construction.
-fn take_field(draft: &mut Draft, place: usize, last: u8, tag: u8, body: &[u8]) -> Result<(), Refusal>
+fn take_field(
+    draft: &mut Draft,
+    place: usize,
+    last: u8,
+    tag: u8,
+    body: &[u8],
+) -> Result<(), Refusal>
     requires { ⌜ place + 3 + length (now body) < 2 ^ 64 ⌝ }
     ensures { λ r. ⌜ Added place last tag (now (body .entry)) (now (draft .entry)) (now (draft .exit)) r ⌝ }
 {
@@ -59,7 +64,13 @@ fn take_field(draft: &mut Draft, place: usize, last: u8, tag: u8, body: &[u8]) -
             let above = last_number(draft.plans.as_slice());
             let plan = read_plan(draft.statements.as_slice(), above, place, last, body)?;
             let value = plan_of(plan.value, body);
-            add(&mut draft.plans, Placed { place: plan.place, value })?;
+            add(
+                &mut draft.plans,
+                Placed {
+                    place: plan.place,
+                    value,
+                },
+            )?;
         }
         _ => return Err(Refusal::NotDue(place)),
     }

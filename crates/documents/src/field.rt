@@ -30,7 +30,11 @@ pub(crate) fn next_field<'a>(place: usize, bytes: &'a [u8]) -> Result<Field<'a>,
         return Err(Refusal::Truncated(place));
     }
     let (body, rest) = after.split_at(size);
-    Ok(Field { tag: *tag, body, rest })
+    Ok(Field {
+        tag: *tag,
+        body,
+        rest,
+    })
 }
 
 /// Two bytes as one number, the high one first.

@@ -25,9 +25,13 @@ use tables::test::JoinedTest;
 
 /// The tags of a statement's fields, in their order.
 pub(crate) const NAME: u8 = 16;
+
 pub(crate) const MARK: u8 = 17;
+
 pub(crate) const TEST: u8 = 18;
+
 pub(crate) const THEN_ACTION: u8 = 19;
+
 pub(crate) const ELSE_ACTION: u8 = 20;
 
 /// Whether one of these statements has this name.
@@ -42,7 +46,12 @@ pub(crate) fn is_named(statements: &[Statement], name: u8) -> bool
     false
 }
 
-pub(crate) fn read_name(above: &[Statement], place: usize, last: u8, body: &[u8]) -> Result<Placed<Name>, Refusal>
+pub(crate) fn read_name(
+    above: &[Statement],
+    place: usize,
+    last: u8,
+    body: &[u8],
+) -> Result<Placed<Name>, Refusal>
     ensures { λ r. ⌜ Read place (name-rules (names-of (now (above .entry))) last (now (body .entry))) (λ v. v .0 ≡ name-in (now (body .entry))) r ⌝ }
 {
     if last != 0 || body.len() != 1 {
@@ -55,7 +64,10 @@ pub(crate) fn read_name(above: &[Statement], place: usize, last: u8, body: &[u8]
     if is_named(above, name) {
         return Err(Refusal::Conflicting(place));
     }
-    Ok(Placed { place, value: Name(name) })
+    Ok(Placed {
+        place,
+        value: Name(name),
+    })
 }
 
 pub(crate) fn read_mark(place: usize, last: u8, body: &[u8]) -> Result<Placed<Mark>, Refusal>
@@ -70,7 +82,12 @@ pub(crate) fn read_mark(place: usize, last: u8, body: &[u8]) -> Result<Placed<Ma
     }
 }
 
-pub(crate) fn read_test(place: usize, last: u8, nth: usize, body: &[u8]) -> Result<Placed<JoinedTest>, Refusal>
+pub(crate) fn read_test(
+    place: usize,
+    last: u8,
+    nth: usize,
+    body: &[u8],
+) -> Result<Placed<JoinedTest>, Refusal>
     ensures { λ r. ⌜ Read place (test-rules last nth (now (body .entry))) (λ v. test-in (now (body .entry)) ≡ Some v) r ⌝ }
 {
     if last < NAME || last > TEST || body.len() != 7 {
@@ -86,7 +103,12 @@ pub(crate) fn read_test(place: usize, last: u8, nth: usize, body: &[u8]) -> Resu
     }
 }
 
-pub(crate) fn read_action(place: usize, due: bool, above: &[Action], body: &[u8]) -> Result<Placed<Action>, Refusal>
+pub(crate) fn read_action(
+    place: usize,
+    due: bool,
+    above: &[Action],
+    body: &[u8],
+) -> Result<Placed<Action>, Refusal>
     requires { ⌜ length (now above) ≤ max-actions ⌝ }
     ensures { λ r. ⌜ Read place (action-rules due (now (above .entry)) (now (body .entry))) (λ v. action-in (now (body .entry)) ≡ Some v) r ⌝ }
 {

@@ -23,7 +23,9 @@ use tables::statement::Statement;
 
 /// The tags of a document's fields, in their order.
 pub(crate) const VERSION: u8 = 1;
+
 pub(crate) const STATEMENT: u8 = 2;
+
 pub(crate) const PLAN: u8 = 3;
 
 /// A plan as read: its number, and which bytes of its field's body are the names that it lists.
@@ -90,7 +92,13 @@ pub(crate) fn last_number(plans: &[Plan]) -> u8
 }
 
 /// The plan whose field stands at `place`, where `above` is the number of the plan before it.
-pub(crate) fn read_plan(statements: &[Statement], above: u8, place: usize, last: u8, body: &[u8]) -> Result<Placed<PlanRead>, Refusal>
+pub(crate) fn read_plan(
+    statements: &[Statement],
+    above: u8,
+    place: usize,
+    last: u8,
+    body: &[u8],
+) -> Result<Placed<PlanRead>, Refusal>
     ensures { λ r. ⌜ Read place (plan-rules last above (names-of (now (statements .entry))) (now (body .entry))) (λ v. (v .number ≡ byte (now (body .entry)) 0) × (v .«names_start» ≡ 1) × (v .«names_end» ≡ length (now (body .entry)))) r ⌝ }
 {
     if !follows(VERSION, PLAN, last) || body.is_empty() || body.len() > 1 + MAX_NAMES {

@@ -38,7 +38,9 @@ use tables::time::Tenths;
 
 // What a name, a test or an action is before it is read: the filler of lists.
 const NO_NAME: Name = Name(0);
+
 const NO_ACTION: Action = Action::Delay(Tenths(0));
+
 const NO_TEST: JoinedTest = JoinedTest {
     join: Join::First,
     test: Test::StatementIs(NO_NAME, State::Off),
@@ -58,7 +60,10 @@ pub(crate) fn unread() -> Statement
 }
 
 /// Adds what was read to a list, or refuses it where the list is full.
-pub(crate) fn add<T: Copy, const N: usize>(list: &mut BoundedList<T, N>, item: Placed<T>) -> Result<(), Refusal>
+pub(crate) fn add<T: Copy, const N: usize>(
+    list: &mut BoundedList<T, N>,
+    item: Placed<T>,
+) -> Result<(), Refusal>
     ensures { λ r. ⌜ Cases r (λ _. held (now (list .exit)) ≡ held (now (list .entry)) ++ item .value ∷ []) (λ _. N ≤ length (held (now (list .entry)))) ⌝ }
 {
     match list.push(item.value) {
@@ -75,7 +80,14 @@ pub(crate) fn follows(from: u8, to: u8, last: u8) -> bool
 }
 
 /// Takes one field of a statement's body into the statement.
-fn take_part(s: &mut Statement, above: &[Statement], place: usize, last: u8, tag: u8, body: &[u8]) -> Result<(), Refusal>
+fn take_part(
+    s: &mut Statement,
+    above: &[Statement],
+    place: usize,
+    last: u8,
+    tag: u8,
+    body: &[u8],
+) -> Result<(), Refusal>
     ensures { λ r. ⌜ Taken (names-of (now (above .entry))) place last tag (now (body .entry)) (now (s .entry)) (now (s .exit)) r ⌝ }
 {
     match tag {
@@ -101,7 +113,11 @@ fn take_part(s: &mut Statement, above: &[Statement], place: usize, last: u8, tag
 }
 
 /// The statement whose field stands at `place`, from the field's body.
-pub(crate) fn read_statement(above: &[Statement], place: usize, body: &[u8]) -> Result<Statement, Refusal>
+pub(crate) fn read_statement(
+    above: &[Statement],
+    place: usize,
+    body: &[u8],
+) -> Result<Statement, Refusal>
     requires { ⌜ place + 3 + length (now body) < 2 ^ 64 ⌝ }
     ensures { λ r. ⌜ Cases r
         (λ s. (statement-fault (names-of (now (above .entry))) place (now (body .entry)) ≡ None) × (statement-row s ≡ statement-in (pieces (place + 3) 0 (now (body .entry)))))

@@ -15,9 +15,20 @@ pub impl Worded for Action as ActionWorded {
 
     fn write_words<W: fmt::Write>(&self, f: &mut fmt::Formatter<W>) -> fmt::Result {
         match *self {
-            Action::SetPlace(place, state) => write!(f, "SET {} {}", InWords(&place), state_label(state)),
+            Action::SetPlace(place, state) => write!(
+                f,
+                "SET {} {}",
+                InWords(&place),
+                state_label(state)
+            ),
             Action::SetMember(member, state) => {
-                write!(f, "SET {} {} {}", family_set(member.family), member.number, state_label(state))
+                write!(
+                    f,
+                    "SET {} {} {}",
+                    family_set(member.family),
+                    member.number,
+                    state_label(state)
+                )
             }
             Action::Delay(tenths) => write!(f, "DELAY FOR {}.{}", tenths.0 / 10, tenths.0 % 10),
         }

@@ -27,7 +27,11 @@ pub impl<T: Worded> fmt::Display for InWords<'_, T> as InWordsDisplay {
 }
 
 /// Writes some parts in words, one after another, each behind the same lead.
-pub(crate) fn write_each<T: Worded, W: fmt::Write>(f: &mut fmt::Formatter<W>, lead: &str, parts: &[T]) -> fmt::Result
+pub(crate) fn write_each<T: Worded, W: fmt::Write>(
+    f: &mut fmt::Formatter<W>,
+    lead: &str,
+    parts: &[T],
+) -> fmt::Result
     ensures { λ r. ⌜ Prints (W·Write .took) (now (f .entry)) r (each-text (T·Worded .worded) (now (lead .entry)) (now (parts .entry))) (now (f .exit)) ⌝ }
 {
     for part in parts {

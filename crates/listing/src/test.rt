@@ -18,13 +18,35 @@ pub impl Worded for Test as TestWorded {
 
     fn write_words<W: fmt::Write>(&self, f: &mut fmt::Formatter<W>) -> fmt::Result {
         match *self {
-            Test::PlaceIs(place, state) => write!(f, "{} IS {}", InWords(&place), state_label(state)),
+            Test::PlaceIs(place, state) => write!(
+                f,
+                "{} IS {}",
+                InWords(&place),
+                state_label(state)
+            ),
             Test::MemberIs(member, state) => {
-                write!(f, "{} {} IS {}", family_tested(member.family), member.number, state_label(state))
+                write!(
+                    f,
+                    "{} {} IS {}",
+                    family_tested(member.family),
+                    member.number,
+                    state_label(state)
+                )
             }
-            Test::StatementIs(name, state) => write!(f, "LOGIC STATEMENT {} IS {}", name.0, state_label(state)),
+            Test::StatementIs(name, state) => write!(
+                f,
+                "LOGIC STATEMENT {} IS {}",
+                name.0,
+                state_label(state)
+            ),
             Test::NumberIs(number, comparison, entry) => {
-                write!(f, "{} {} {}", InWords(&number), comparison_label(comparison), entry.value())
+                write!(
+                    f,
+                    "{} {} {}",
+                    InWords(&number),
+                    comparison_label(comparison),
+                    entry.value()
+                )
             }
         }
     }

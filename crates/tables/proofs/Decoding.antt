@@ -28,11 +28,11 @@ module _ {X : Type 0} (coded : X → ℕ) where
   decoded-has-code (y ∷ all) c x e =
       ⊎-elim
       (λ is.
-        let same : y ≡ x = let s = cond-true (eqb (coded y) c) (Some y) (decoded coded all c) is in cc in
-        (subst (λ z. coded z ≡ c) same (eqb-true (coded y) c is), inl same))
+      let same : y ≡ x = let s = cond-true (eqb (coded y) c) (Some y) (decoded coded all c) is in cc in
+      (subst (λ z. coded z ≡ c) same (eqb-true (coded y) c is), inl same))
       (λ isnt.
-        let rest = decoded-has-code all c x (sym (cond-false (eqb (coded y) c) (Some y) (decoded coded all c) isnt) ∙ e) in
-        (rest .0, inr (rest .1)))
+      let rest = decoded-has-code all c x (sym (cond-false (eqb (coded y) c) (Some y) (decoded coded all c) isnt) ∙ e) in
+      (rest .0, inr (rest .1)))
       (cases-bool (eqb (coded y) c))
 
   coded-member : (all : List X) (x : X) → Among x all → member (coded x) (map coded all) ≡ true
@@ -51,7 +51,7 @@ module _ {X : Type 0} (coded : X → ℕ) where
       let two = and-parts (not (member (coded y) (map coded all))) (distinct (map coded all)) apart in
       ⊎-elim
       (λ is. absurd (both-ways (member (coded y) (map coded all)) (not-true (member (coded y) (map coded all)) (two .0))
-        (subst (λ c. member c (map coded all) ≡ true) (sym (eqb-true (coded y) (coded x) is)) (coded-member all x there))))
+      (subst (λ c. member c (map coded all) ≡ true) (sym (eqb-true (coded y) (coded x) is)) (coded-member all x there))))
       (λ isnt. cond-false (eqb (coded y) (coded x)) (Some y) (decoded coded all (coded x)) isnt ∙ code-decodes all (two .1) x there)
       (cases-bool (eqb (coded y) (coded x)))
 

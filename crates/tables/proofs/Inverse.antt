@@ -94,9 +94,10 @@ state-test-has : (c : TestCodes) (kind : Kind) (t : Test) → kind-code kind ≡
 state-test-has c kind t k e =
     let no-entry = only-was (eqb (c .entry) 0) (then (state-of (c .relation)) (asked-of kind (c .which))) t e in
     let was = then-was (state-of (c .relation)) (asked-of kind (c .which)) t (no-entry .1) in
-    let has = asked-has kind (c .which) (was .0) t (was .2) in
-    ( has .0 ∙ test-codes-equal (asked kind (c .which) (was .0)) c k refl (states-inverse .1 (c .relation) (was .0) (was .1) .0) (sym (eqb-true (c .entry) 0 (no-entry .0)))
-    , has .1)
+    let has = asked-has kind (c .which) (was .0) t (was .2) in (
+      has .0 ∙ test-codes-equal (asked kind (c .which) (was .0)) c k refl (states-inverse .1 (c .relation) (was .0) (was .1) .0) (sym (eqb-true (c .entry) 0 (no-entry .0))),
+      has .1,
+    )
 
 -- codes that compare a number with an entry are those of the test that they stand for
 number-test-has : (c : TestCodes) (t : Test) → kind-code FrameNumber ≡ c .kind → number-test c ≡ Some t → Test-has c t
@@ -107,9 +108,10 @@ number-test-has c t k e =
     let number = numbers-inverse .1 (c .which) n (was .1) in
     let relation = comparisons-inverse .1 (c .relation) (parts .0) (parts .2) .0 in
     let entry = entries-inverse n .1 (c .entry) (parts .1) (parts .3) in
-    subst (Test-has c) (parts .4)
-      ( test-codes-equal (test-codes (NumberIs n (parts .0) (parts .1))) c k (number .0) relation (entry .0)
-      , and-from (numbered n) (entry-keeps n (parts .1)) (number .1) (entry .1))
+    subst (Test-has c) (parts .4) (
+      test-codes-equal (test-codes (NumberIs n (parts .0) (parts .1))) c k (number .0) relation (entry .0),
+      and-from (numbered n) (entry-keeps n (parts .1)) (number .1) (entry .1),
+    )
 
 -- codes of any kind are those of the test that they stand for
 kind-test-has : (c : TestCodes) (kind : Kind) (t : Test) → kind-code kind ≡ c .kind → test-of-kind c kind ≡ Some t → Test-has c t
@@ -191,7 +193,7 @@ delay-has c a k e =
     let two = only-is (leb (c .which) max-delay && eqb (c .state) 0) (Delay (record { 0 = c .which })) a e in
     let parts = and-parts (leb (c .which) max-delay) (eqb (c .state) 0) (two .0) in
     subst (Action-has c) (two .1)
-      (action-codes-equal (action-codes (Delay (record { 0 = c .which }))) c k refl (sym (eqb-true (c .state) 0 (parts .1))), parts .0)
+    (action-codes-equal (action-codes (Delay (record { 0 = c .which }))) c k refl (sym (eqb-true (c .state) 0 (parts .1))), parts .0)
 
 -- codes of any kind are those of the action that they stand for
 kind-action-has : (c : ActionCodes) (kind : Kind) (a : Action) → kind-code kind ≡ c .kind → action-of-kind c kind ≡ Some a → Action-has c a

@@ -32,11 +32,12 @@ use Rattle.tables.proofs.Cases.{families-inverse}
 
 -- the codes of names are inverse both ways
 pub names-inverse : Inverse name-number name-of name-keeps
-names-inverse =
-    ( (λ n e. only-true (name-keeps n) (Some n) e)
-    , (λ c n e.
-        let two = only-is (counted-to last-name c) (record { 0 = c }) n e in
-        (sym (ap name-number (two .1)), subst (λ m. name-keeps m ≡ true) (two .1) (two .0))))
+names-inverse = (
+  (λ n e. only-true (name-keeps n) (Some n) e),
+  (λ c n e.
+      let two = only-is (counted-to last-name c) (record { 0 = c }) n e in
+      (sym (ap name-number (two .1)), subst (λ m. name-keeps m ≡ true) (two .1) (two .0))),
+)
 
 -- ---- members
 
@@ -141,11 +142,12 @@ entry-has-value : (n : Number) (value : ℕ) (e : Entry) → entry-in n value �
 entry-has-value n value e is =
     let two = only-is (allowed n value) (entry-made (in-seconds n) value) e is in
     let made = made-has (in-seconds n) value in
-    let same : entry-value e ≡ value = sym (ap entry-value (two .1)) ∙ made .0 in
-    ( same
-    , and-from (alike (in-seconds n) (timed e)) (allowed n (entry-value e))
-        (subst (λ f. alike (in-seconds n) (timed f) ≡ true) (two .1) (made .1))
-        (subst (λ v. allowed n v ≡ true) (sym same) (two .0)))
+    let same : entry-value e ≡ value = sym (ap entry-value (two .1)) ∙ made .0 in (
+      same,
+      and-from (alike (in-seconds n) (timed e)) (allowed n (entry-value e))
+          (subst (λ f. alike (in-seconds n) (timed f) ≡ true) (two .1) (made .1))
+          (subst (λ v. allowed n v ≡ true) (sym same) (two .0)),
+    )
 
 -- the values of the entries of each number are inverse both ways
 pub entries-inverse : (n : Number) → Inverse entry-value (entry-in n) (entry-keeps n)

@@ -45,7 +45,12 @@ impl Layout {
         requires { ⌜ self .first + self .step * 256 < 65536 ⌝ }
         ensures { λ r. ⌜ span-cells r ≡ map (member-cell self) (counting 1 (self .members)) ⌝ }
     {
-        CellSpan { buffer: self.buffer, first: self.first, step: self.step, count: self.members }
+        CellSpan {
+            buffer: self.buffer,
+            first: self.first,
+            step: self.step,
+            count: self.members,
+        }
     }
 
     // The cell of one member, counted from 0.
@@ -53,7 +58,12 @@ impl Layout {
         requires { ⌜ self .first + self .step * 512 < 65536 ⌝ }
         ensures { λ r. ⌜ span-cells r ≡ member-cell self (suc k) ∷ [] ⌝ }
     {
-        CellSpan { buffer: self.buffer, first: self.first + self.step * u16::from(k), step: self.step, count: 1 }
+        CellSpan {
+            buffer: self.buffer,
+            first: self.first + self.step * u16::from(k),
+            step: self.step,
+            count: 1,
+        }
     }
 }
 

@@ -61,21 +61,39 @@ impl Layout {
     fn outputs(first: u16) -> Layout
         ensures { λ r. ⌜ r ≡ in-outputs first ⌝ }
     {
-        Layout { buffer: Buffer::Output, first, members: 16, step: 1, whole: true }
+        Layout {
+            buffer: Buffer::Output,
+            first,
+            members: 16,
+            step: 1,
+            whole: true,
+        }
     }
 
     // Input cells in a row.
     fn inputs(first: u16, members: u8) -> Layout
         ensures { λ r. ⌜ r ≡ in-inputs first members ⌝ }
     {
-        Layout { buffer: Buffer::Input, first, members, step: 1, whole: true }
+        Layout {
+            buffer: Buffer::Input,
+            first,
+            members,
+            step: 1,
+            whole: true,
+        }
     }
 
     // One input cell for each of the four rings, eight apart.
     fn ring_inputs(first: u16) -> Layout
         ensures { λ r. ⌜ r ≡ in-ring-inputs first ⌝ }
     {
-        Layout { buffer: Buffer::Input, first, members: 4, step: 8, whole: true }
+        Layout {
+            buffer: Buffer::Input,
+            first,
+            members: 4,
+            step: 8,
+            whole: true,
+        }
     }
 }
 
@@ -100,7 +118,13 @@ impl Family {
             Family::PhaseTiming => Layout::outputs(320),
             Family::VehicleCheck => Layout::outputs(352),
             Family::PedCheck => Layout::outputs(368),
-            Family::VehicleDetector => Layout { buffer: Buffer::Input, first: 0, members: 64, step: 1, whole: false },
+            Family::VehicleDetector => Layout {
+                buffer: Buffer::Input,
+                first: 0,
+                members: 64,
+                step: 1,
+                whole: false,
+            },
             Family::PedDetector => Layout::inputs(64, 16),
             Family::Hold => Layout::inputs(80, 16),
             Family::Omit => Layout::inputs(96, 16),

@@ -65,11 +65,15 @@ impl Refusal {
         ensures { λ r. ⌜ now r ≡ rule-text self ⌝ }
     {
         match self {
-            Refusal::Truncated(_) => "a field is cut short: its header or its body passes the end of what encloses it",
-            Refusal::NotDue(_) => "a field is not due here, a required one is missing, or a body has the wrong length",
-            Refusal::TooMany(_) => "a statement has too many tests, or one of its branches too many actions",
+            Refusal::Truncated(_) =>
+                "a field is cut short: its header or its body passes the end of what encloses it",
+            Refusal::NotDue(_) =>
+                "a field is not due here, a required one is missing, or a body has the wrong length",
+            Refusal::TooMany(_) =>
+                "a statement has too many tests, or one of its branches too many actions",
             Refusal::OutOfRange(_) => "a byte, a code or an entry has a value that is not allowed",
-            Refusal::Conflicting(_) => "a name is used twice, a plan or its names do not rise, or a plan lists a name that is not in the table",
+            Refusal::Conflicting(_) =>
+                "a name is used twice, a plan or its names do not rise, or a plan lists a name that is not in the table",
             Refusal::DelaysTooLong(_) => "the DELAYs of a branch add up to too long a time",
             Refusal::NotAFrame => "the frame is not exactly 520 bytes long",
             Refusal::NoSuchStatement => "the table has no statement of that name",
@@ -88,7 +92,11 @@ pub impl fmt::Display for Refusal as RefusalDisplay {
     fn fmt<W: fmt::Write>(&self, f: &mut fmt::Formatter<W>) -> fmt::Result {
         let rule = self.rule();
         match *self {
-            Refusal::TouchingPair(earlier, later) => write!(f, "{rule}: {} and {}", earlier.0, later.0),
+            Refusal::TouchingPair(earlier, later) => write!(
+                f,
+                "{rule}: {} and {}",
+                earlier.0, later.0
+            ),
             Refusal::BufferTooShort(needed) => write!(f, "{rule}: {needed} bytes are needed"),
             _ => f.write_str(rule),
         }

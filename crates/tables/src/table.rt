@@ -22,7 +22,10 @@ pub struct Table {
 
 impl Table {
     /// A table of parts that keep the rules.
-    pub fn new(statements: BoundedList<Statement, MAX_NAMES>, plans: BoundedList<Plan, MAX_NAMES>) -> Table
+    pub fn new(
+        statements: BoundedList<Statement, MAX_NAMES>,
+        plans: BoundedList<Plan, MAX_NAMES>,
+    ) -> Table
         requires { ⌜ table-keeps (table-rows (held statements) (held plans)) ≡ true ⌝ }
         ensures statements { λ r. ⌜ r .statements ≡ statements ⌝ }
         ensures plans { λ r. ⌜ r .plans ≡ plans ⌝ }

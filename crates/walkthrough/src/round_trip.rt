@@ -24,7 +24,10 @@ fn write_and_compare(rt: &LibcRuntime, table: &Table, document: &[u8]) -> io::Re
         Ok(size) => {
             buffer.truncate(size);
             let same = buffer.as_slice() == document;
-            println!(rt, "written out it takes {size} bytes, the same as were read: {same}")?;
+            println!(
+                rt,
+                "written out it takes {size} bytes, the same as were read: {same}"
+            )?;
             read_again(rt, buffer.as_slice())
         }
         Err(refusal) => show_refusal(rt, refusal),
@@ -36,7 +39,10 @@ fn read_again(rt: &LibcRuntime, document: &[u8]) -> io::Result<()> {
         Ok(table) => {
             let statements = table.statements().len();
             let plans = table.plans().len();
-            println!(rt, "read again it has {statements} statements and {plans} plans")
+            println!(
+                rt,
+                "read again it has {statements} statements and {plans} plans"
+            )
         }
         Err(refusal) => show_refusal(rt, refusal),
     }

@@ -8,8 +8,9 @@ use Rattle.writing.proofs.ReadBack.{written-tables-are-read-back}
 use Rattle.writing.proofs.WrittenTables.{accepted-documents-are-written-tables}
 
 pub acceptance-is-being-a-written-table : Acceptance-is-being-a-written-table
-acceptance-is-being-a-written-table doc bytes =
-    (λ accepted.
+acceptance-is-being-a-written-table doc bytes = (
+  λ accepted.
       let written = accepted-documents-are-written-tables doc (accepted .0) bytes (accepted .1) in
       (accepted .0, written .0, accepted-tables-keep-the-rules doc (accepted .0) (accepted .1), written .1),
-     λ written. (written .0, ap reading (written .3) ∙ written-tables-are-read-back (written .0) (written .1) (written .2)))
+  λ written. (written .0, ap reading (written .3) ∙ written-tables-are-read-back (written .0) (written .1) (written .2)),
+)

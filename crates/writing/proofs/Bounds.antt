@@ -62,10 +62,10 @@ table-short spelled t keeps =
     let d = and-parts (leb (length (t .plans)) last-name) _ (c .1) in
     let e = and-parts (every (plan-keeps names) (t .plans)) (rising 0 (map row-number (t .plans))) (d .1) in
     document-at-most spelled t last-name (3 + 4 + 4 + 10 * max-tests + 2 * (7 * max-actions)) (3 + 1 + last-name)
-      (leb-true (length (t .statements)) last-name (a .0))
-      (leb-true (length (t .plans)) last-name (d .0))
-      (statements-at-most (3 + 4 + 4 + 10 * max-tests + 2 * (7 * max-actions)) statement-keeps statement-short spelled (t .statements) (b .0))
-      (joined-at-most plan-bytes (3 + 1 + last-name) (plan-keeps names) (plan-short names) (t .plans) (e .0))
+    (leb-true (length (t .statements)) last-name (a .0))
+    (leb-true (length (t .plans)) last-name (d .0))
+    (statements-at-most (3 + 4 + 4 + 10 * max-tests + 2 * (7 * max-actions)) statement-keeps statement-short spelled (t .statements) (b .0))
+    (joined-at-most plan-bytes (3 + 1 + last-name) (plan-keeps names) (plan-short names) (t .plans) (e .0))
 
 -- no accepted document is longer
 pub no-document-is-longer : No-document-is-longer

@@ -53,6 +53,10 @@ pub joined-room : {X : Type 0} (f : X → List ℕ) (xs : List X) (i : ℕ) (x :
 joined-room f xs i x lt =
     let whole = ap (joined f) (sym (take-append-drop (i + 1) xs)) ∙ joined-append f (take (i + 1) xs) (drop (i + 1) xs) in
     let front = joined-next f xs i x lt in
-    omega (arith, ap length whole, ap length front,
+    omega (
+      arith,
+      ap length whole,
+      ap length front,
       length-append (joined f (take (i + 1) xs)) (joined f (drop (i + 1) xs)),
-      length-append (joined f (take i xs)) (f (getD xs i x)))
+      length-append (joined f (take i xs)) (f (getD xs i x)),
+    )

@@ -56,8 +56,8 @@ pieces-hold-bytes place zero (a ∷ []) small = (tt, tt)
 pieces-hold-bytes place zero (a ∷ h ∷ []) small = (tt, tt)
 pieces-hold-bytes place zero (a ∷ h ∷ l ∷ bs) small =
     elim (leb (wide h l) (length bs)) as (λ b. Hold-bytes (cond b (field place a (take (wide h l) bs) ∷ pieces (place + 3) (wide h l) bs) (cut place ∷ []))) [
-      true ↦ (all-take (λ b. b < 256) (wide h l) bs (small .1 .1 .1), pieces-hold-bytes (place + 3) (wide h l) bs (small .1 .1 .1))
-    | false ↦ (tt, tt)
+      | true ↦ (all-take (λ b. b < 256) (wide h l) bs (small .1 .1 .1), pieces-hold-bytes (place + 3) (wide h l) bs (small .1 .1 .1))
+      | false ↦ (tt, tt)
     ]
 
 -- whole pieces of bytes, laid end to end, are the bytes
@@ -72,10 +72,10 @@ laid-pieces place zero (a ∷ h ∷ l ∷ bs) small whole =
     let G : Bool → Type 0 = λ b. Whole (either b) → laid (either b) ≡ a ∷ h ∷ l ∷ bs in
     ⊎-elim
     (λ is. subst G (sym is) (λ w.
-      let n = length-take-le (wide h l) bs (leb-true (wide h l) (length bs) is) in
-      let t = two-wide h l (small .1 .1 .0) in
-      let r = laid-pieces (place + 3) (wide h l) bs (small .1 .1 .1) w in
-      let j = take-append-drop (wide h l) bs in
-      cc) whole)
+    let n = length-take-le (wide h l) bs (leb-true (wide h l) (length bs) is) in
+    let t = two-wide h l (small .1 .1 .0) in
+    let r = laid-pieces (place + 3) (wide h l) bs (small .1 .1 .1) w in
+    let j = take-append-drop (wide h l) bs in
+    cc) whole)
     (λ isnt. absurd (subst (λ b. Whole (either b)) isnt whole))
     (cases-bool (leb (wide h l) (length bs)))

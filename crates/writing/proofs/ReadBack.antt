@@ -50,7 +50,7 @@ rows-keep t keeps =
 names-in-range : (ss : List StatementRow) → every statement-keeps ss ≡ true → every (counted-to last-name) (map row-name ss) ≡ true
 names-in-range ss each =
     every-map (counted-to last-name) row-name ss
-      (every-weaker statement-keeps (λ s. counted-to last-name (row-name s)) (λ s keeps. and-parts (counted-to last-name (s .name)) _ keeps .0) ss each)
+    (every-weaker statement-keeps (λ s. counted-to last-name (row-name s)) (λ s keeps. and-parts (counted-to last-name (s .name)) _ keeps .0) ss each)
 
 -- a written table is read from its version to its last plan
 rows-are-read : (t : TableRows) (spelled : List Bool) → Rows-keep t → (end : ℕ) × (plan-due end ≡ true) × Fields-read (spelled-bytes spelled t) t end []
@@ -60,7 +60,7 @@ rows-are-read t spelled k =
     let a = version-read doc [] [] 0 (1 ∷ []) (statements-bytes spelled (t .statements) ++ plans) (record { due = refl; sized = refl; one = refl }) (nothing-read doc) in
     let b = statements-are-read doc (t .statements) (k .apart) [] (t .statements) spelled 1 plans refl refl (k .each) a in
     plans-are-read doc (t .statements) (names-in-range (t .statements) (k .each)) (t .plans) (k .rises) [] (t .plans) (b .0) [] refl (statement-or-plan (b .0) (b .1)) (k .planned)
-      (subst (Fields-read doc (table (t .statements) []) (b .0)) (sym (append-nil plans)) (b .2))
+    (subst (Fields-read doc (table (t .statements) []) (b .0)) (sym (append-nil plans)) (b .2))
 
 -- where all of a document is read, its reading is the table that its fields say
 read-to-its-end : (doc : List ℕ) (t : TableRows) (end : ℕ) → plan-due end ≡ true → Fields-read doc t end [] → reading doc ≡ Ok t

@@ -47,21 +47,21 @@ module _ (doc : List ℕ) where
     version-read ok h =
         let t : TableRows = table statements plans in
         one-more t last 1 b rest t h
-          (fault-version (h .here) last 1 b (h .before) t (h .says) (h .passed .tag) refl ∙ ap (at (h .here)) (version-allowed last b ok))
-          (added-version (h .here) 1 b (h .before) t (h .says) refl)
+        (fault-version (h .here) last 1 b (h .before) t (h .says) (h .passed .tag) refl ∙ ap (at (h .here)) (version-allowed last b ok))
+        (added-version (h .here) 1 b (h .before) t (h .says) refl)
 
     -- one statement more
     pub statement-read : (s : StatementRow) → statement-due last ≡ true → ((place : ℕ) → (statement-fault (map row-name statements) place b ≡ None) × (row-in b ≡ s)) → Fields-read doc (table statements plans) last (field-bytes 2 b ++ rest) → Fields-read doc (table (statements ++ s ∷ []) plans) 2 rest
     statement-read s due ok h =
         let t : TableRows = table statements plans in
         one-more t last 2 b rest _ h
-          (fault-statement (h .here) last 2 b (h .before) t (h .says) (h .passed .tag) refl due (map row-name statements) refl ∙ ok (h .here) .0)
-          (added-statement (h .here) 2 b (h .before) t (h .says) refl (statements ++ s ∷ []) (ap (λ r. statements ++ r ∷ []) (sym (ok (h .here) .1))))
+        (fault-statement (h .here) last 2 b (h .before) t (h .says) (h .passed .tag) refl due (map row-name statements) refl ∙ ok (h .here) .0)
+        (added-statement (h .here) 2 b (h .before) t (h .says) refl (statements ++ s ∷ []) (ap (λ r. statements ++ r ∷ []) (sym (ok (h .here) .1))))
 
     -- one plan more
     pub plan-read : Plan-passes last (newest-number plans) (map row-name statements) b → Fields-read doc (table statements plans) last (field-bytes 3 b ++ rest) → Fields-read doc (table statements (plans ++ plan-in b ∷ [])) 3 rest
     plan-read ok h =
         let t : TableRows = table statements plans in
         one-more t last 3 b rest _ h
-          (fault-plan (h .here) last 3 b (h .before) t (h .says) (h .passed .tag) refl (newest-number plans) (map row-name statements) refl refl ∙ ap (at (h .here)) (plan-allowed last (newest-number plans) (map row-name statements) b ok))
-          (added-plan (h .here) 3 b (h .before) t (h .says) refl (plans ++ plan-in b ∷ []) refl)
+        (fault-plan (h .here) last 3 b (h .before) t (h .says) (h .passed .tag) refl (newest-number plans) (map row-name statements) refl refl ∙ ap (at (h .here)) (plan-allowed last (newest-number plans) (map row-name statements) b ok))
+        (added-plan (h .here) 3 b (h .before) t (h .says) refl (plans ++ plan-in b ∷ []) refl)

@@ -62,9 +62,9 @@ module _ (used : List ℕ) (start : ℕ) (body : List ℕ) (name : ℕ) (mark : 
   next-test-is-read : (before : List JoinedTest) (t : JoinedTest) (behind : List JoinedTest) (last : ℕ) (rest : List ℕ) → before ++ t ∷ behind ≡ all → (leb 16 last && leb last 18) ≡ true → test-keeps (t .test) ≡ true → Parts-read used start body (row name mark before [] []) last (tests-bytes (t ∷ behind) ++ rest) → Parts-read used start body (row name mark (before ++ t ∷ []) [] []) 18 (tests-bytes behind ++ rest)
   next-test-is-read before t behind last rest is due keeps h =
       test-read used start body name mark before [] [] last (test-body t) (tests-bytes behind ++ rest) t
-        (written-test-is-read t keeps)
-        (written-test-passes last before t due (room-for-it max-tests before t behind all is few) (begins-if-first before t behind all is joins) keeps)
-        (subst (Parts-read used start body (row name mark before [] []) last) (append-assoc (field-bytes 18 (test-body t)) (tests-bytes behind) rest) h)
+      (written-test-is-read t keeps)
+      (written-test-passes last before t due (room-for-it max-tests before t behind all is few) (begins-if-first before t behind all is joins) keeps)
+      (subst (Parts-read used start body (row name mark before [] []) last) (append-assoc (field-bytes 18 (test-body t)) (tests-bytes behind) rest) h)
 
   -- so are those behind the first
   later-tests-are-read : (before behind : List JoinedTest) (rest : List ℕ) → before ++ behind ≡ all → every (λ t. test-keeps (t .test)) behind ≡ true → Parts-read used start body (row name mark before [] []) 18 (tests-bytes behind ++ rest) → Parts-read used start body (row name mark all [] []) 18 rest
@@ -79,16 +79,14 @@ tests-are-read used start body name mark [] last rest some few joins keep due h 
 tests-are-read used start body name mark (t ∷ ts) last rest some few joins keep due h =
     let two = and-parts (test-keeps (t .test)) (every (λ u. test-keeps (u .test)) ts) keep in
     later-tests-are-read used start body name mark (t ∷ ts) few joins (t ∷ []) ts rest refl (two .1)
-      (next-test-is-read used start body name mark (t ∷ ts) few joins [] t ts last rest refl due (two .0) h)
+    (next-test-is-read used start body name mark (t ∷ ts) few joins [] t ts last rest refl due (two .0) h)
 
 -- ---- the actions of a branch
 
-
 -- a branch: `due` says after which tags its actions may stand, and one action more is read where its rules are met
 module _ (used : List ℕ) (start : ℕ) (body : List ℕ) (tag : ℕ) (due : ℕ → Bool) (still : due tag ≡ true) (with-actions : List Action → StatementRow)
-  (one : (before : List Action) (a : Action) (last : ℕ) (rest : List ℕ) → Action-passes (due last) before (action-body a) → action-keeps a ≡ true → Parts-read used start body (with-actions before) last (field-bytes tag (action-body a) ++ rest) → Parts-read used start body (with-actions (before ++ a ∷ [])) tag rest)
-  (all : List Action) (few : leb (length all) max-actions ≡ true) (short : leb (delays all) max-delay ≡ true) where
-
+    (one : (before : List Action) (a : Action) (last : ℕ) (rest : List ℕ) → Action-passes (due last) before (action-body a) → action-keeps a ≡ true → Parts-read used start body (with-actions before) last (field-bytes tag (action-body a) ++ rest) → Parts-read used start body (with-actions (before ++ a ∷ [])) tag rest)
+    (all : List Action) (few : leb (length all) max-actions ≡ true) (short : leb (delays all) max-delay ≡ true) where
   -- from any action on, the actions are read, and those of this branch are due again
   actions-are-read : (before behind : List Action) (last : ℕ) (rest : List ℕ) → before ++ behind ≡ all → due last ≡ true → every action-keeps behind ≡ true → Parts-read used start body (with-actions before) last (actions-bytes tag behind ++ rest) → (end : ℕ) × (due end ≡ true) × Parts-read used start body (with-actions all) end rest
   actions-are-read before [] last rest is in-turn keep h =
@@ -97,7 +95,7 @@ module _ (used : List ℕ) (start : ℕ) (body : List ℕ) (tag : ℕ) (due : �
       let two = and-parts (action-keeps a) (every action-keeps behind) keep in
       let ok = written-action-passes (due last) before a in-turn (room-for-it max-actions before a behind all is few) (short-up-to-it max-delay before a behind all is short) (two .0) in
       let on = one before a last (actions-bytes tag behind ++ rest) ok (two .0)
-        (subst (Parts-read used start body (with-actions before) last) (append-assoc (field-bytes tag (action-body a)) (actions-bytes tag behind) rest) h) in
+      (subst (Parts-read used start body (with-actions before) last) (append-assoc (field-bytes tag (action-body a)) (actions-bytes tag behind) rest) h) in
       actions-are-read (before ++ a ∷ []) behind tag rest (one-on before a behind all is) still (two .1) on
 
 -- what a branch that keeps the rules keeps
@@ -113,13 +111,13 @@ module _ (used : List ℕ) (start : ℕ) (body : List ℕ) (name : ℕ) (mark : 
   thens-are-read acts keeps due h =
       let three = branch-parts acts keeps in
       actions-are-read used start body 19 then-due refl (λ now. row name mark tests now [])
-        (λ before a l r ok keeps h. then-read used start body name mark tests before [] l (action-body a) r a (written-action-is-read a keeps) ok h)
-        acts (three .0) (three .2) [] acts last rest refl due (three .1) h
+      (λ before a l r ok keeps h. then-read used start body name mark tests before [] l (action-body a) r a (written-action-is-read a keeps) ok h)
+      acts (three .0) (three .2) [] acts last rest refl due (three .1) h
 
   -- the ELSE actions are read after the tests and the THEN actions
   pub elses-are-read : (thens acts : List Action) → branch-keeps acts ≡ true → else-due last ≡ true → Parts-read used start body (row name mark tests thens []) last (actions-bytes 20 acts ++ rest) → (end : ℕ) × (else-due end ≡ true) × Parts-read used start body (row name mark tests thens acts) end rest
   elses-are-read thens acts keeps due h =
       let three = branch-parts acts keeps in
       actions-are-read used start body 20 else-due refl (λ now. row name mark tests thens now)
-        (λ before a l r ok keeps h. else-read used start body name mark tests thens before l (action-body a) r a (written-action-is-read a keeps) ok h)
-        acts (three .0) (three .2) [] acts last rest refl due (three .1) h
+      (λ before a l r ok keeps h. else-read used start body name mark tests thens before l (action-body a) r a (written-action-is-read a keeps) ok h)
+      acts (three .0) (three .2) [] acts last rest refl due (three .1) h

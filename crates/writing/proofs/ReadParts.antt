@@ -49,37 +49,37 @@ module _ (used : List ℕ) (start : ℕ) (body : List ℕ) where
     name-read n is ok h =
         let s : StatementRow = row name mark tests thens elses in
         one-more s last 16 b rest _ h
-          (fault-name used (h .here) last 16 b (h .before) s (h .says) (h .passed .tag) refl ∙ ap (at (h .here)) (name-allowed used last b ok))
-          (took-name (h .here) 16 b (h .before) s (h .says) refl n is)
+        (fault-name used (h .here) last 16 b (h .before) s (h .says) (h .passed .tag) refl ∙ ap (at (h .here)) (name-allowed used last b ok))
+        (took-name (h .here) 16 b (h .before) s (h .says) refl n is)
 
     -- a mark
     pub mark-read : (m : Mark) → mark-in b ≡ Some m → Mark-passes last b → Parts-read used start body (row name mark tests thens elses) last (field-bytes 17 b ++ rest) → Parts-read used start body (row name m tests thens elses) 17 rest
     mark-read m is ok h =
         let s : StatementRow = row name mark tests thens elses in
         one-more s last 17 b rest _ h
-          (fault-mark used (h .here) last 17 b (h .before) s (h .says) (h .passed .tag) refl ∙ ap (at (h .here)) (mark-allowed last b ok))
-          (took-mark (h .here) 17 b (h .before) s (h .says) refl m is)
+        (fault-mark used (h .here) last 17 b (h .before) s (h .says) (h .passed .tag) refl ∙ ap (at (h .here)) (mark-allowed last b ok))
+        (took-mark (h .here) 17 b (h .before) s (h .says) refl m is)
 
     -- one test more
     pub test-read : (t : JoinedTest) → test-in b ≡ Some t → Test-passes last (length tests) b → Parts-read used start body (row name mark tests thens elses) last (field-bytes 18 b ++ rest) → Parts-read used start body (row name mark (tests ++ t ∷ []) thens elses) 18 rest
     test-read t is ok h =
         let s : StatementRow = row name mark tests thens elses in
         one-more s last 18 b rest _ h
-          (fault-test used (h .here) last 18 b (h .before) s (h .says) (h .passed .tag) refl ∙ ap (at (h .here)) (test-allowed last (length tests) b ok))
-          (took-test (h .here) 18 b (h .before) s (h .says) refl t is (tests ++ t ∷ []) refl)
+        (fault-test used (h .here) last 18 b (h .before) s (h .says) (h .passed .tag) refl ∙ ap (at (h .here)) (test-allowed last (length tests) b ok))
+        (took-test (h .here) 18 b (h .before) s (h .says) refl t is (tests ++ t ∷ []) refl)
 
     -- one THEN action more
     pub then-read : (a : Action) → action-in b ≡ Some a → Action-passes (then-due last) thens b → Parts-read used start body (row name mark tests thens elses) last (field-bytes 19 b ++ rest) → Parts-read used start body (row name mark tests (thens ++ a ∷ []) elses) 19 rest
     then-read a is ok h =
         let s : StatementRow = row name mark tests thens elses in
         one-more s last 19 b rest _ h
-          (fault-then used (h .here) last 19 b (h .before) s (h .says) (h .passed .tag) refl (then-due last) thens refl refl ∙ ap (at (h .here)) (action-allowed (then-due last) thens b ok))
-          (took-then (h .here) 19 b (h .before) s (h .says) refl a is (thens ++ a ∷ []) refl)
+        (fault-then used (h .here) last 19 b (h .before) s (h .says) (h .passed .tag) refl (then-due last) thens refl refl ∙ ap (at (h .here)) (action-allowed (then-due last) thens b ok))
+        (took-then (h .here) 19 b (h .before) s (h .says) refl a is (thens ++ a ∷ []) refl)
 
     -- one ELSE action more
     pub else-read : (a : Action) → action-in b ≡ Some a → Action-passes (else-due last) elses b → Parts-read used start body (row name mark tests thens elses) last (field-bytes 20 b ++ rest) → Parts-read used start body (row name mark tests thens (elses ++ a ∷ [])) 20 rest
     else-read a is ok h =
         let s : StatementRow = row name mark tests thens elses in
         one-more s last 20 b rest _ h
-          (fault-else used (h .here) last 20 b (h .before) s (h .says) (h .passed .tag) refl (else-due last) elses refl refl ∙ ap (at (h .here)) (action-allowed (else-due last) elses b ok))
-          (took-else (h .here) 20 b (h .before) s (h .says) refl a is (elses ++ a ∷ []) refl)
+        (fault-else used (h .here) last 20 b (h .before) s (h .says) (h .passed .tag) refl (else-due last) elses refl refl ∙ ap (at (h .here)) (action-allowed (else-due last) elses b ok))
+        (took-else (h .here) 20 b (h .before) s (h .says) refl a is (elses ++ a ∷ []) refl)

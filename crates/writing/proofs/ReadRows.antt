@@ -34,7 +34,7 @@ module _ (doc : List ℕ) (all : List StatementRow) (apart : distinct (map row-n
   next-statement-is-read : (before : List StatementRow) (s : StatementRow) (behind : List StatementRow) (spelled : Bool) (last : ℕ) (rest : List ℕ) → before ++ s ∷ behind ≡ all → statement-due last ≡ true → statement-keeps s ≡ true → Fields-read doc (table before []) last (field-bytes 2 (statement-body spelled s) ++ rest) → Fields-read doc (table (before ++ s ∷ []) []) 2 rest
   next-statement-is-read before s behind spelled last rest is due keeps h =
       statement-read doc before [] last (statement-body spelled s) rest s due
-        (λ place. written-statement-is-read (map row-name before) place spelled s keeps (name-not-before before s behind all is apart)) h
+      (λ place. written-statement-is-read (map row-name before) place spelled s keeps (name-not-before before s behind all is apart)) h
 
   -- from any statement on, the statements are read, and a plan may follow
   pub statements-are-read : (before behind : List StatementRow) (spelled : List Bool) (last : ℕ) (rest : List ℕ) → before ++ behind ≡ all → statement-due last ≡ true → every statement-keeps behind ≡ true → Fields-read doc (table before []) last (statements-bytes spelled behind ++ rest) → (end : ℕ) × (statement-due end ≡ true) × Fields-read doc (table all []) end rest
@@ -43,12 +43,12 @@ module _ (doc : List ℕ) (all : List StatementRow) (apart : distinct (map row-n
   statements-are-read before (s ∷ behind) [] last rest is due keep h =
       let two = and-parts (statement-keeps s) (every statement-keeps behind) keep in
       let on = next-statement-is-read before s behind false last (statements-bytes [] behind ++ rest) is due (two .0)
-        (subst (Fields-read doc (table before []) last) (append-assoc (field-bytes 2 (statement-body false s)) (statements-bytes [] behind) rest) h) in
+      (subst (Fields-read doc (table before []) last) (append-assoc (field-bytes 2 (statement-body false s)) (statements-bytes [] behind) rest) h) in
       statements-are-read (before ++ s ∷ []) behind [] 2 rest (one-on before s behind all is) refl (two .1) on
   statements-are-read before (s ∷ behind) (b ∷ spelled) last rest is due keep h =
       let two = and-parts (statement-keeps s) (every statement-keeps behind) keep in
       let on = next-statement-is-read before s behind b last (statements-bytes spelled behind ++ rest) is due (two .0)
-        (subst (Fields-read doc (table before []) last) (append-assoc (field-bytes 2 (statement-body b s)) (statements-bytes spelled behind) rest) h) in
+      (subst (Fields-read doc (table before []) last) (append-assoc (field-bytes 2 (statement-body b s)) (statements-bytes spelled behind) rest) h) in
       statements-are-read (before ++ s ∷ []) behind spelled 2 rest (one-on before s behind all is) refl (two .1) on
 
 -- ---- plans
@@ -97,5 +97,5 @@ module _ (doc : List ℕ) (statements : List StatementRow) (named : every (count
       let two = and-parts (plan-keeps (map row-name statements) p) (every (plan-keeps (map row-name statements)) behind) keep in
       let ok = written-plan-passes (map row-name statements) named last (newest-number before) p due (number-above before p behind all is up) (two .0) in
       let on = plan-read doc statements before last (p .number ∷ p .names) (joined plan-bytes behind ++ rest) ok
-        (subst (Fields-read doc (table statements before) last) (append-assoc (plan-bytes p) (joined plan-bytes behind) rest) h) in
+      (subst (Fields-read doc (table statements before) last) (append-assoc (plan-bytes p) (joined plan-bytes behind) rest) h) in
       plans-are-read (before ++ p ∷ []) behind 3 rest (one-on before p behind all is) refl (two .1) on

@@ -89,16 +89,17 @@ parts-are-read used start spelled s k unused =
     let c = tests-are-read used start body (s .name) (s .mark) (s .tests) (b .0) thens (k .some) (k .few) (k .joins) (k .tests) (b .1) (b .2) in
     let d = thens-are-read used start body (s .name) (s .mark) (s .tests) 18 elses (s .thens) (k .thens) refl c in
     elses-are-read used start body (s .name) (s .mark) (s .tests) (d .0) [] (s .thens) (s .elses) (k .elses) (then-or-else (d .0) (d .1))
-      (subst (Parts-read used start body (row (s .name) (s .mark) (s .tests) (s .thens) []) (d .0)) (sym (append-nil elses)) (d .2))
+    (subst (Parts-read used start body (row (s .name) (s .mark) (s .tests) (s .thens) []) (d .0)) (sym (append-nil elses)) (d .2))
 
 -- where all of a statement's body is read and the last field is a test or an action, the body is not at fault
 read-to-its-end : (used : List ℕ) (place : ℕ) (body : List ℕ) (s : StatementRow) (end : ℕ) → else-due end ≡ true → Parts-read used (place + 3) body s end [] → (statement-fault used place body ≡ None) × (row-in body ≡ s)
 read-to-its-end used place body s end due h =
     let two = ended (h .passed) refl in
     let last : last-tag (pieces (place + 3) 0 body) ≡ end = ap last-tag (sym (two .0)) ∙ sym (h .passed .tag) in
-    let finished : unfinished place end ≡ None = cond-true (leb 18 end) None (Some (refused-at 2 place)) (and-parts (leb 18 end) (leb end 20) due .0) in
-    (ap (λ o. or-else o (unfinished place (last-tag (pieces (place + 3) 0 body)))) (two .1) ∙ ap (unfinished place) last ∙ finished,
-    statement-place 0 (place + 3) body ∙ ap statement-in (sym (two .0)) ∙ sym (h .says))
+    let finished : unfinished place end ≡ None = cond-true (leb 18 end) None (Some (refused-at 2 place)) (and-parts (leb 18 end) (leb end 20) due .0) in (
+      ap (λ o. or-else o (unfinished place (last-tag (pieces (place + 3) 0 body)))) (two .1) ∙ ap (unfinished place) last ∙ finished,
+      statement-place 0 (place + 3) body ∙ ap statement-in (sym (two .0)) ∙ sym (h .says),
+    )
 
 -- a written statement that keeps the rules, with a name not used above, is not at fault, wherever it stands, and says that statement
 pub written-statement-is-read : (used : List ℕ) (place : ℕ) (spelled : Bool) (s : StatementRow) → statement-keeps s ≡ true → member (s .name) used ≡ false → (statement-fault used place (statement-body spelled s) ≡ None) × (row-in (statement-body spelled s) ≡ s)

@@ -32,7 +32,9 @@ mark-small Planned = omega arith
 -- a statement's body, part by part
 pub body-size : (s : StatementRow) → length (statement-body false s) ≡ 4 + (length (mark-bytes false (s .mark)) + (length (tests-bytes (s .tests)) + (length (actions-bytes 19 (s .thens)) + length (actions-bytes 20 (s .elses)))))
 body-size s =
-    omega (arith,
+    omega (
+      arith,
       length-append (mark-bytes false (s .mark)) (tests-bytes (s .tests) ++ (actions-bytes 19 (s .thens) ++ actions-bytes 20 (s .elses))),
       length-append (tests-bytes (s .tests)) (actions-bytes 19 (s .thens) ++ actions-bytes 20 (s .elses)),
-      length-append (actions-bytes 19 (s .thens)) (actions-bytes 20 (s .elses)))
+      length-append (actions-bytes 19 (s .thens)) (actions-bytes 20 (s .elses)),
+    )

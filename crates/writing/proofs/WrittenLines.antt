@@ -35,8 +35,8 @@ pub written-test-is-read : (t : JoinedTest) → test-keeps (t .test) ≡ true �
 unfolding test-in
 written-test-is-read t keeps =
     both-some joined-test (join-of (join-code (t .join))) (test-of (test-codes-in (test-body t))) (t .join) (t .test)
-      (codes-are-inverse .joins .0 (t .join) refl)
-      (ap test-of (test-codes-are-read t) ∙ codes-are-inverse .tests .0 (t .test) keeps)
+    (codes-are-inverse .joins .0 (t .join) refl)
+    (ap test-of (test-codes-are-read t) ∙ codes-are-inverse .tests .0 (t .test) keeps)
 
 -- an action's body has the action's codes
 action-codes-are-read : (a : Action) → action-codes-in (action-body a) ≡ action-codes a

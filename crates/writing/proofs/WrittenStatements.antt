@@ -45,33 +45,33 @@ finished place last none = leb-true 18 last (condition-met (leb 18 last) _ none)
 said-steps : (used : List ℕ) → Part-steps used Bytes-said
 said-steps used = record {
   name = λ before place body h so small.
-    let two = hold-bytes-parts before place 16 body small in
-    let s = statement-in before in
-    said-push before place 16 body Statement-said statement-in (name-in body ∷ []) _ (one-byte body (h .sized)) (took-name place 16 body before s refl refl (name-in body) refl)
+      let two = hold-bytes-parts before place 16 body small in
+      let s = statement-in before in
+      said-push before place 16 body Statement-said statement-in (name-in body ∷ []) _ (one-byte body (h .sized)) (took-name place 16 body before s refl refl (name-in body) refl)
       (said-name (laid before) (last-tag before) s (so (two .0)) (name-in body) (eqb-true (last-tag before) 0 (h .due)));
   mark = λ before place body h so small.
-    let two = hold-bytes-parts before place 17 body small in
-    let s = statement-in before in
-    let v = value-there (mark-in body) (h .there) in
-    said-push before place 17 body Statement-said statement-in _ _ (mark-is-body body (v .0) (h .sized) (v .1)) (took-mark place 17 body before s refl refl (v .0) (v .1))
+      let two = hold-bytes-parts before place 17 body small in
+      let s = statement-in before in
+      let v = value-there (mark-in body) (h .there) in
+      said-push before place 17 body Statement-said statement-in _ _ (mark-is-body body (v .0) (h .sized) (v .1)) (took-mark place 17 body before s refl refl (v .0) (v .1))
       (said-mark (laid before) (last-tag before) s (so (two .0)) (v .0) (eqb-true (last-tag before) 16 (h .due)));
   test = λ before place body h so small.
-    let two = hold-bytes-parts before place 18 body small in
-    let s = statement-in before in
-    let v = value-there (test-in body) (h .there) in
-    said-push before place 18 body Statement-said statement-in _ _ (test-is-body body (v .0) (two .1) (h .sized) (v .1)) (took-test place 18 body before s refl refl (v .0) (v .1) (s .tests ++ v .0 ∷ []) refl)
+      let two = hold-bytes-parts before place 18 body small in
+      let s = statement-in before in
+      let v = value-there (test-in body) (h .there) in
+      said-push before place 18 body Statement-said statement-in _ _ (test-is-body body (v .0) (two .1) (h .sized) (v .1)) (took-test place 18 body before s refl refl (v .0) (v .1) (s .tests ++ v .0 ∷ []) refl)
       (said-test (laid before) (last-tag before) s (so (two .0)) (v .0) (due-after 16 (last-tag before) 18 (h .due)) (due-until 16 (last-tag before) 18 (h .due)));
   thens = λ before place body h so small.
-    let two = hold-bytes-parts before place 19 body small in
-    let s = statement-in before in
-    let v = value-there (action-in body) (h .there) in
-    said-push before place 19 body Statement-said statement-in _ _ (action-is-body body (v .0) (two .1) (h .sized) (v .1)) (took-then place 19 body before s refl refl (v .0) (v .1) (s .thens ++ v .0 ∷ []) refl)
+      let two = hold-bytes-parts before place 19 body small in
+      let s = statement-in before in
+      let v = value-there (action-in body) (h .there) in
+      said-push before place 19 body Statement-said statement-in _ _ (action-is-body body (v .0) (two .1) (h .sized) (v .1)) (took-then place 19 body before s refl refl (v .0) (v .1) (s .thens ++ v .0 ∷ []) refl)
       (said-then (laid before) (last-tag before) s (so (two .0)) (v .0) (due-after 18 (last-tag before) 19 (h .in-turn)) (due-until 18 (last-tag before) 19 (h .in-turn)));
   elses = λ before place body h so small.
-    let two = hold-bytes-parts before place 20 body small in
-    let s = statement-in before in
-    let v = value-there (action-in body) (h .there) in
-    said-push before place 20 body Statement-said statement-in _ _ (action-is-body body (v .0) (two .1) (h .sized) (v .1)) (took-else place 20 body before s refl refl (v .0) (v .1) (s .elses ++ v .0 ∷ []) refl)
+      let two = hold-bytes-parts before place 20 body small in
+      let s = statement-in before in
+      let v = value-there (action-in body) (h .there) in
+      said-push before place 20 body Statement-said statement-in _ _ (action-is-body body (v .0) (two .1) (h .sized) (v .1)) (took-else place 20 body before s refl refl (v .0) (v .1) (s .elses ++ v .0 ∷ []) refl)
       (said-else (laid before) (last-tag before) s (so (two .0)) (v .0) (due-after 18 (last-tag before) 20 (h .in-turn)));
 }
 

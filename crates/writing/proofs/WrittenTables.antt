@@ -70,17 +70,17 @@ module _ (before : List Piece) (place : ℕ) (body : List ℕ) where
 said-steps : Top-steps Bytes-said
 said-steps = record {
   version = λ before place body h so small.
-    let two = hold-bytes-parts before place 1 body small in
-    said-push before place 1 body Table-said table-in (1 ∷ []) (table-in before) (version-body (last-tag before) body h) (took-version before place body)
+      let two = hold-bytes-parts before place 1 body small in
+      said-push before place 1 body Table-said table-in (1 ∷ []) (table-in before) (version-body (last-tag before) body h) (took-version before place body)
       (said-version (laid before) (last-tag before) (table-in before) (so (two .0)) (eqb-true (last-tag before) 0 (h .due)));
   statement = λ before place body due none so small.
-    let two = hold-bytes-parts before place 2 body small in
-    let s = statement-is-body (names-in before) place body (two .1) none in
-    said-push before place 2 body Table-said table-in (statement-body (s .0) (row-in body)) _ (s .1) (took-statement before place body)
+      let two = hold-bytes-parts before place 2 body small in
+      let s = statement-is-body (names-in before) place body (two .1) none in
+      said-push before place 2 body Table-said table-in (statement-body (s .0) (row-in body)) _ (s .1) (took-statement before place body)
       (said-statement (laid before) (last-tag before) (table-in before) (so (two .0)) (s .0) (row-in body) (due-after 1 (last-tag before) 2 due) (due-until 1 (last-tag before) 2 due));
   plan = λ before place body h so small.
-    let two = hold-bytes-parts before place 3 body small in
-    said-push before place 3 body Table-said table-in (byte body 0 ∷ drop 1 body) _ (first-byte (suc last-name) body (h .sized)) (took-plan before place body)
+      let two = hold-bytes-parts before place 3 body small in
+      said-push before place 3 body Table-said table-in (byte body 0 ∷ drop 1 body) _ (first-byte (suc last-name) body (h .sized)) (took-plan before place body)
       (said-plan (laid before) (last-tag before) (table-in before) (so (two .0)) (plan-in body) (due-after 1 (last-tag before) 3 (h .due)));
 }
 

@@ -60,7 +60,11 @@ pub(crate) fn put_field<T: Body>(buffer: &mut [u8], start: usize, tag: u8, item:
     ensures { λ r. ⌜ Wrote (now (buffer .entry)) start (field-bytes tag (T·Body .body (now (item .entry)))) (now (buffer .exit)) r ⌝ }
 {
     let size = item.size();
-    let at = put_bytes(buffer, start, &[tag, (size / 256) as u8, (size % 256) as u8]);
+    let at = put_bytes(
+        buffer,
+        start,
+        &[tag, (size / 256) as u8, (size % 256) as u8],
+    );
     item.put_body(buffer, at)
 }
 

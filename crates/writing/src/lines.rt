@@ -73,7 +73,19 @@ pub(crate) impl Body for JoinedTest as TestBody {
     fn put_body(&self, buffer: &mut [u8], at: usize) -> usize {
         let join = self.join.code();
         let t = self.test.codes();
-        put_bytes(buffer, at, &[join, t.kind, high(t.which), low(t.which), t.relation, high(t.entry), low(t.entry)])
+        put_bytes(
+            buffer,
+            at,
+            &[
+                join,
+                t.kind,
+                high(t.which),
+                low(t.which),
+                t.relation,
+                high(t.entry),
+                low(t.entry),
+            ],
+        )
     }
 }
 

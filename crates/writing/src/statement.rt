@@ -26,9 +26,13 @@ use tables::statement::Statement;
 
 /// The tags of a statement's fields.
 const NAME: u8 = 16;
+
 const MARK: u8 = 17;
+
 const TEST: u8 = 18;
+
 const THEN_ACTION: u8 = 19;
+
 const ELSE_ACTION: u8 = 20;
 
 // How many bytes a mark takes: none where an absent one says the same.

@@ -24,6 +24,7 @@ const VERSION: [u8; 4] = [1, 0, 1, 1];
 
 /// The tags of the other fields of a document.
 const STATEMENT: u8 = 2;
+
 const PLAN: u8 = 3;
 
 /// How many bytes a table takes.

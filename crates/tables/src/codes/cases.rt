@@ -29,7 +29,12 @@ const STATES: [State; 2] = [State::Off, State::On];
 
 const JOINS: [Join; 3] = [Join::First, Join::And, Join::Or];
 
-const COMPARISONS: [Comparison; 4] = [Comparison::Is, Comparison::IsNot, Comparison::Greater, Comparison::Less];
+const COMPARISONS: [Comparison; 4] = [
+    Comparison::Is,
+    Comparison::IsNot,
+    Comparison::Greater,
+    Comparison::Less,
+];
 
 const MARKS: [Mark; 3] = [Mark::Enabled, Mark::Disabled, Mark::Planned];
 

@@ -90,7 +90,11 @@ impl Test {
         match self {
             Test::PlaceIs(place, state) => Self::asked(place.kind(), place.code(), state),
             Test::MemberIs(member, state) => Self::asked(Kind::FamilyMember, member.code(), state),
-            Test::StatementIs(name, state) => Self::asked(Kind::LogicStatement, u16::from(name.0), state),
+            Test::StatementIs(name, state) => Self::asked(
+                Kind::LogicStatement,
+                u16::from(name.0),
+                state,
+            ),
             Test::NumberIs(number, comparison, entry) => TestCodes {
                 kind: Kind::FrameNumber.code(),
                 which: number.code(),

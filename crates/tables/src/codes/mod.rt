@@ -1,5 +1,6 @@
 // The codes by which a table document names all that a test or an action is made of, and back. Nothing else converts.
 ghost use Rattle.tables.specs.Inverse.{Codes-are-inverse};
+
 pub mod cases;
 pub mod lines;
 pub mod numbers;

@@ -43,7 +43,10 @@ impl Number {
         ensures { λ r. ⌜ r ≡ number-of code ⌝ }
     {
         match code {
-            0..=23 => Some(Number::RingTimer(ring_at((code / 6) as u8), timer_at((code % 6) as u8))),
+            0..=23 => Some(Number::RingTimer(
+                ring_at((code / 6) as u8),
+                timer_at((code % 6) as u8),
+            )),
             24 => Some(Number::CoordinationPlan),
             25 => Some(Number::CycleLength),
             26 => Some(Number::Offset),
@@ -75,7 +78,8 @@ impl Number {
         ensures { λ r. ⌜ r ≡ number-code self ⌝ }
     {
         match self {
-            Number::RingTimer(ring, timer) => 6 * (u16::from(ring.code()) - 1) + u16::from(timer.code()),
+            Number::RingTimer(ring, timer) => 6 * (u16::from(ring.code()) - 1)
+                + u16::from(timer.code()),
             Number::CoordinationPlan => 24,
             Number::CycleLength => 25,
             Number::Offset => 26,

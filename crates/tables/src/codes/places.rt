@@ -54,7 +54,9 @@ impl Place {
         match kind {
             Kind::Cib if code < INPUT_CELLS => Some(Place::InputCell(code)),
             Kind::Cob if code < OUTPUT_CELLS => Some(Place::OutputCell(code)),
-            Kind::LogicFlag if code >= 1 && code <= LAST_FLAG as u16 => Some(Place::Flag(code as u8)),
+            Kind::LogicFlag if code >= 1 && code <= LAST_FLAG as u16 => Some(Place::Flag(
+                code as u8,
+            )),
             _ => None,
         }
     }

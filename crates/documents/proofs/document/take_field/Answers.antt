@@ -18,9 +18,10 @@ use Rattle.documents.proofs.Shifting.{statement-place}
 use Rattle.documents.proofs.document.take_field.Needs as need
 
 pub returns-in-Continue-read-version : need.returns-in-Continue-read-version
-returns-in-Continue-read-version c = λ before is l clean.
-    (fault-version (c .args .place) (c .args .last) (c .args .tag) (c .args .body .now) before (draft-rows (c .args .draft .now)) is l (c .in-1 .is) ∙ ap (at (c .args .place)) (c .in-Continue-read-version .ensures tt),
-     added-version (c .args .place) (c .args .tag) (c .args .body .now) before (draft-rows (c .args .draft .now)) is (c .in-1 .is))
+returns-in-Continue-read-version c = λ before is l clean. (
+  fault-version (c .args .place) (c .args .last) (c .args .tag) (c .args .body .now) before (draft-rows (c .args .draft .now)) is l (c .in-1 .is) ∙ ap (at (c .args .place)) (c .in-Continue-read-version .ensures tt),
+  added-version (c .args .place) (c .args .tag) (c .args .body .now) before (draft-rows (c .args .draft .now)) is (c .in-1 .is),
+)
 
 pub returns-in-Break-add : need.returns-in-Break-add
 returns-in-Break-add c = λ before is l clean.
@@ -33,11 +34,12 @@ pub returns-in-Continue-add : need.returns-in-Continue-add
 returns-in-Continue-add c = λ before is l clean.
     let rows = draft-rows (c .args .draft .now) in
     let read = c .in-Continue-value .ensures tt in
-    let value = statement-row (c .in-Continue-value .value) in
-    (fault-statement (c .args .place) (c .args .last) (c .args .tag) (c .args .body .now) before rows is l (c .in-2 .is) (sym (c .follows .ensures) ∙ c .if-follows .taken) (names-of (c .as-slice .result .now)) (ap names-of (c .as-slice .ensures .value)) ∙ read .0,
-     added-statement (c .args .place) (c .args .tag) (c .args .body .now) before rows is (c .in-2 .is) _
-     (ap (map statement-row) (c .in-Continue-add .ensures tt) ∙ map-push statement-row (held (c .args .draft .now .statements)) (c .in-Continue-value .value)
-      ∙ ap (λ r. rows .statements ++ r ∷ []) (read .1 ∙ statement-place (c .args .place + 3) 0 (c .args .body .now))))
+    let value = statement-row (c .in-Continue-value .value) in (
+      fault-statement (c .args .place) (c .args .last) (c .args .tag) (c .args .body .now) before rows is l (c .in-2 .is) (sym (c .follows .ensures) ∙ c .if-follows .taken) (names-of (c .as-slice .result .now)) (ap names-of (c .as-slice .ensures .value)) ∙ read .0,
+      added-statement (c .args .place) (c .args .tag) (c .args .body .now) before rows is (c .in-2 .is) _
+          (ap (map statement-row) (c .in-Continue-add .ensures tt) ∙ map-push statement-row (held (c .args .draft .now .statements)) (c .in-Continue-value .value)
+          ∙ ap (λ r. rows .statements ++ r ∷ []) (read .1 ∙ statement-place (c .args .place + 3) 0 (c .args .body .now))),
+    )
 
 pub plan-of-value-requires : need.plan-of-value-requires
 plan-of-value-requires c κs =
@@ -57,8 +59,9 @@ returns-in-Break-add-2 c = λ before is l clean.
 pub returns-in-Continue-add-2 : need.returns-in-Continue-add-2
 returns-in-Continue-add-2 c = λ before is l clean.
     let rows = draft-rows (c .args .draft .now) in
-    let above = c .last-number-above .ensures ∙ ap (λ ps. newest-number (map plan-row ps)) (c .as-slice-in-3 .ensures .value) in
-    (fault-plan (c .args .place) (c .args .last) (c .args .tag) (c .args .body .now) before rows is l (c .in-3 .is) (c .last-number-above .result) (names-of (c .as-slice-in-3-2 .result .now)) above (ap names-of (c .as-slice-in-3-2 .ensures .value)) ∙ ap (at (c .args .place)) (c .in-Continue-plan .ensures tt .0),
-     added-plan (c .args .place) (c .args .tag) (c .args .body .now) before rows is (c .in-3 .is) _
-     (ap (map plan-row) (c .in-Continue-add-2 .ensures tt) ∙ map-push plan-row (held (c .args .draft .now .plans)) (c .plan-of-value .result)
-      ∙ ap (λ r. rows .plans ++ r ∷ []) (c .plan-of-value .ensures)))
+    let above = c .last-number-above .ensures ∙ ap (λ ps. newest-number (map plan-row ps)) (c .as-slice-in-3 .ensures .value) in (
+      fault-plan (c .args .place) (c .args .last) (c .args .tag) (c .args .body .now) before rows is l (c .in-3 .is) (c .last-number-above .result) (names-of (c .as-slice-in-3-2 .result .now)) above (ap names-of (c .as-slice-in-3-2 .ensures .value)) ∙ ap (at (c .args .place)) (c .in-Continue-plan .ensures tt .0),
+      added-plan (c .args .place) (c .args .tag) (c .args .body .now) before rows is (c .in-3 .is) _
+          (ap (map plan-row) (c .in-Continue-add-2 .ensures tt) ∙ map-push plan-row (held (c .args .draft .now .plans)) (c .plan-of-value .result)
+          ∙ ap (λ r. rows .plans ++ r ∷ []) (c .plan-of-value .ensures)),
+    )

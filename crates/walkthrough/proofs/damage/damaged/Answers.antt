@@ -15,6 +15,6 @@ returns c =
     ∙ ap (λ k. drop k (c .split-at .result .1 .now)) (c .min-2 .ensures)
     ∙ drop-within (c .args .damage .taken) (c .split-at .result .1 .now)
     ∙ ap (drop (c .args .damage .taken))
-        (c .split-at .ensures .back ∙ ap (λ k. drop k (c .args .document .now)) (c .min .ensures) ∙ drop-within (c .args .damage .place) (c .args .document .now)))
+    (c .split-at .ensures .back ∙ ap (λ k. drop k (c .args .document .now)) (c .min .ensures) ∙ drop-within (c .args .damage .place) (c .args .document .now)))
     (c .in-Continue-extend-from-slice .ensures tt .items)
     (c .in-Continue-extend-from-slice-2 .ensures tt .items)

@@ -12,14 +12,15 @@ use Rattle.writing.proofs.buffer.fields_size.Needs as need
 pub loop-item-again : need.loop-item-again
 loop-item-again g c =
     let items = c .args .items .now in
-    let i = c .loop-item .item-index in
-    ((λ tag.
-      let written : g .T .Denot → List ℕ = λ x. field-bytes tag (g .T·Body .body x) in
-      let next = ap length (joined-next written items i (c .item-item .result) (omega arith)) in
-      let parts = length-append (joined written (take i items)) (written (getD items i (c .item-item .result))) in
-      let is = ap (λ x. length (g .T·Body .body x)) (c .item-item .is) in
-      omega (arith, c .loop-item .inv .0 tag, c .size .ensures .value)),
-     omega (arith, c .loop-item .inv .1, c .size .ensures .bound))
+    let i = c .loop-item .item-index in (
+      (λ tag.
+          let written : g .T .Denot → List ℕ = λ x. field-bytes tag (g .T·Body .body x) in
+          let next = ap length (joined-next written items i (c .item-item .result) (omega arith)) in
+          let parts = length-append (joined written (take i items)) (written (getD items i (c .item-item .result))) in
+          let is = ap (λ x. length (g .T·Body .body x)) (c .item-item .is) in
+          omega (arith, c .loop-item .inv .0 tag, c .size .ensures .value)),
+      omega (arith, c .loop-item .inv .1, c .size .ensures .bound),
+    )
 
 pub returns : need.returns
 returns g c =

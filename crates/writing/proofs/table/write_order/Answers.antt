@@ -17,7 +17,7 @@ pub returns-in-Break-check-room : need.returns-in-Break-check-room
 returns-in-Break-check-room c =
     let ss = held (c .args .table .now .statements) in
     let n : length (c .statements-statements .result .now) ≡ length (order-bytes (rows-of (c .args .table .now))) =
-        omega (arith, ap length (c .statements-statements .ensures .value), ap length (names-same ss), length-map ss (λ (s : Statement). s .name .0)) in
+    omega (arith, ap length (c .statements-statements .ensures .value), ap length (names-same ss), length-map ss (λ (s : Statement). s .name .0)) in
     let p = err-from-errBy (c .from-residual .result) (c .from-residual .ensures .1) in
     let short = c .in-Break-check-room .ensures tt in
     rw (p .1, p .2) (short .1 ∙ ap short-by n, omega (arith, short .0), refl)

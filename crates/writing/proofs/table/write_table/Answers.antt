@@ -20,7 +20,7 @@ put-fields-at-requires c κs =
     let t = c .args .table .now in
     let whole = table-length (held (t .statements)) (held (t .plans)) in
     let room : c .put-bytes-at .result + length (coded-statements (c .statements .result .now)) ≤ length (c .put-bytes-at .last .buffer) =
-        omega (arith, ap (λ l. length (coded-statements l)) (c .statements .ensures .value), c .put-bytes-at .ensures .stop, c .put-bytes-at .ensures .size, c .table-size-size .ensures) in
+    omega (arith, ap (λ l. length (coded-statements l)) (c .statements .ensures .value), c .put-bytes-at .ensures .stop, c .put-bytes-at .ensures .size, c .table-size-size .ensures) in
     room
 
 pub put-fields-requires : need.put-fields-requires
@@ -28,8 +28,16 @@ put-fields-requires c κs =
     let t = c .args .table .now in
     let whole = table-length (held (t .statements)) (held (t .plans)) in
     let room : c .put-fields-at .result + length (coded-plans (c .plans .result .now)) ≤ length (c .put-fields-at .last .buffer) =
-        omega (arith, ap (λ l. length (coded-statements l)) (c .statements .ensures .value), ap (λ l. length (coded-plans l)) (c .plans .ensures .value),
-          c .put-bytes-at .ensures .stop, c .put-bytes-at .ensures .size, c .put-fields-at .ensures .stop, c .put-fields-at .ensures .size, c .table-size-size .ensures) in
+    omega (
+      arith,
+      ap (λ l. length (coded-statements l)) (c .statements .ensures .value),
+      ap (λ l. length (coded-plans l)) (c .plans .ensures .value),
+      c .put-bytes-at .ensures .stop,
+      c .put-bytes-at .ensures .size,
+      c .put-fields-at .ensures .stop,
+      c .put-fields-at .ensures .size,
+      c .table-size-size .ensures,
+    ) in
     room
 
 pub returns-in-Break-check-room : need.returns-in-Break-check-room
@@ -42,10 +50,10 @@ pub returns : need.returns
 returns c =
     let t = c .args .table .now in
     let all = wrote-same
-        (ap (λ l. 1 ∷ 0 ∷ 1 ∷ 1 ∷ (coded-statements l ++ coded-plans (c .plans .result .now))) (c .statements .ensures .value)
-         ∙ ap (λ l. 1 ∷ 0 ∷ 1 ∷ 1 ∷ (coded-statements (held (t .statements)) ++ coded-plans l)) (c .plans .ensures .value)
-         ∙ table-parts (held (t .statements)) (held (t .plans)))
-        (wrote-more (c .put-bytes-at .ensures) (wrote-more (c .put-fields-at .ensures) (c .put-fields .ensures))) in
+    (ap (λ l. 1 ∷ 0 ∷ 1 ∷ 1 ∷ (coded-statements l ++ coded-plans (c .plans .result .now))) (c .statements .ensures .value)
+    ∙ ap (λ l. 1 ∷ 0 ∷ 1 ∷ 1 ∷ (coded-statements (held (t .statements)) ++ coded-plans l)) (c .plans .ensures .value)
+    ∙ table-parts (held (t .statements)) (held (t .plans)))
+    (wrote-more (c .put-bytes-at .ensures) (wrote-more (c .put-fields-at .ensures) (c .put-fields .ensures))) in
     let whole = wrote-whole _ _ _ _ all in
     let count : c .put-fields .result ≡ length (table-bytes (rows-of t)) = omega (arith, all .stop) in
     record {

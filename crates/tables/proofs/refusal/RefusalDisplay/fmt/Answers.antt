@@ -12,7 +12,7 @@ pub returns-in-TouchingPair : need.returns-in-TouchingPair
 returns-in-TouchingPair g c p ok =
     put-is (g .W·Write .took) _ _ _ _
     (ap (λ (l : List ℕ). l ++ (codes ": " ++ (decimal (c .in-TouchingPair .earlier .0) ++ (codes " and " ++ decimal (c .in-TouchingPair .later .0)))))
-        (c .rule-rule .ensures ∙ ap rule-text (c .in-TouchingPair .is))
+    (c .rule-rule .ensures ∙ ap rule-text (c .in-TouchingPair .is))
     ∙ ap refusal-text (sym (c .in-TouchingPair .is)))
     (c .write .ensures .shows p ok)
 
@@ -20,6 +20,6 @@ pub returns-in-BufferTooShort : need.returns-in-BufferTooShort
 returns-in-BufferTooShort g c p ok =
     put-is (g .W·Write .took) _ _ _ _
     (ap (λ (l : List ℕ). l ++ (codes ": " ++ (decimal (c .in-BufferTooShort .needed) ++ codes " bytes are needed")))
-        (c .rule-rule .ensures ∙ ap rule-text (c .in-BufferTooShort .is))
+    (c .rule-rule .ensures ∙ ap rule-text (c .in-BufferTooShort .is))
     ∙ ap refusal-text (sym (c .in-BufferTooShort .is)))
     (c .write-in-BufferTooShort .ensures .shows p ok)

@@ -16,8 +16,18 @@ returns c =
     let elses : c .fields-size-elses .result ≡ length (actions-bytes 20 (held (s .«else_actions»))) = c .fields-size-elses .ensures .value 20 ∙ ap (λ l. length (actions-bytes 20 l)) (c .as-slice-3 .ensures .value) in
     record {
       value = omega (arith, c .mark-size .ensures);
-      bound = omega (arith, c .mark-size .ensures, mark-small (s .mark),
-        tests-size (held (s .tests)), actions-size 19 (held (s .«then_actions»)), actions-size 20 (held (s .«else_actions»)),
-        ap length (c .as-slice .ensures .value), ap length (c .as-slice-2 .ensures .value), ap length (c .as-slice-3 .ensures .value),
-        c .as-slice .ensures .bound, c .as-slice-2 .ensures .bound, c .as-slice-3 .ensures .bound);
+      bound = omega (
+        arith,
+        c .mark-size .ensures,
+        mark-small (s .mark),
+        tests-size (held (s .tests)),
+        actions-size 19 (held (s .«then_actions»)),
+        actions-size 20 (held (s .«else_actions»)),
+        ap length (c .as-slice .ensures .value),
+        ap length (c .as-slice-2 .ensures .value),
+        ap length (c .as-slice-3 .ensures .value),
+        c .as-slice .ensures .bound,
+        c .as-slice-2 .ensures .bound,
+        c .as-slice-3 .ensures .bound,
+      );
     }
