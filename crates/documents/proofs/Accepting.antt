@@ -18,7 +18,7 @@ use Rattle.documents.proofs.Faults.{both-none}
 use Rattle.documents.proofs.KeptTables.{clean-pieces-keep-the-rules}
 
 -- where a table is answered there is no fault, and it is the table that the pieces say
-answered : (o : Option Told) (said rows : TableRows) → unless o said ≡ Ok rows → (o ≡ None) × (said ≡ rows)
+pub answered : (o : Option Told) (said rows : TableRows) → unless o said ≡ Ok rows → (o ≡ None) × (said ≡ rows)
 answered None said rows e = (refl, cc)
 answered (Some fault) said rows e = let z : _≡_ {A = ℕ} 0 1 = cc in absurd (omega arith)
 

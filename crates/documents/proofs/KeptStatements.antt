@@ -23,12 +23,12 @@ use Rattle.documents.proofs.KeptTests.{tests-few, tests-some, joins-kept, test
 use Rattle.documents.proofs.KeptBranches.{thens-kept, elses-kept}
 
 -- where a condition alone keeps a fault away, and there is none, the condition is met
-condition-met : {X : Type 0} (b : Bool) (x : X) → cond b None (Some x) ≡ None → b ≡ true
+pub condition-met : {X : Type 0} (b : Bool) (x : X) → cond b None (Some x) ≡ None → b ≡ true
 condition-met true x e = refl
 condition-met false x e = let z : _≡_ {A = ℕ} 0 1 = cc in absurd (omega arith)
 
 -- a finished statement's last field is a test or an action
-finished : (place last : ℕ) → unfinished place last ≡ None → 18 ≤ last
+pub finished : (place last : ℕ) → unfinished place last ≡ None → 18 ≤ last
 finished place last none = leb-true 18 last (condition-met (leb 18 last) _ none)
 
 -- the statement of pieces without fault that end in a test or an action

@@ -9,7 +9,8 @@ use Rattle.documents.specs.Fields.{Piece, field, cut, last-tag}
 use Rattle.documents.proofs.Taking.{tag-push}
 use Rattle.writing.specs.Bytes.{field-bytes}
 use Rattle.writing.specs.Written.{Are-bytes}
-use Rattle.writing.proofs.Laid.{piece-body, piece-bytes, laid, Whole, Hold-bytes}
+use Rattle.documents.specs.Refused.{Whole}
+use Rattle.writing.proofs.Laid.{piece-body, piece-bytes, laid, Hold-bytes}
 
 -- one more at the end of a list is joined behind the others
 pub joined-push : {X : Type 0} (f : X → List ℕ) (xs : List X) (x : X) → joined f (xs ++ x ∷ []) ≡ joined f xs ++ f x

@@ -12,6 +12,7 @@ use Rattle.std.specs.shelf.Lists.{All}
 use Rattle.std.proofs.shelf.Lists.{length-take-le, take-append-drop}
 use Rattle.std.proofs.shelf.Elements.{all-take}
 use Rattle.std.proofs.shelf.Tests.{cases-bool, leb-true}
+use Rattle.documents.specs.Refused.{Whole}
 use Rattle.documents.specs.Fields.{Piece, field, cut, wide, pieces}
 use Rattle.writing.specs.Bytes.{two, field-bytes}
 use Rattle.writing.specs.Written.{Are-bytes}
@@ -29,12 +30,6 @@ piece-bytes (cut place) = []
 -- pieces laid end to end
 abbrev pub laid : List Piece → List ℕ
 laid ps = joined piece-bytes ps
-
--- no piece is cut
-abbrev pub Whole : List Piece → Type 0
-Whole [] = Unit {0}
-Whole (field place tag body ∷ ps) = Whole ps
-Whole (cut place ∷ ps) = ⊥
 
 -- every piece's body is made of bytes
 abbrev pub Hold-bytes : List Piece → Type 0

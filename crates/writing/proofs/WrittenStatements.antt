@@ -11,6 +11,7 @@ use Rattle.documents.specs.Fields.{Piece, pieces, last-tag}
 use Rattle.documents.specs.Judging.{first-fault}
 use Rattle.documents.specs.Statements.{name-in, mark-in, test-in, action-in, part-fault, unfinished, statement-fault, statement-in}
 use Rattle.documents.specs.Documents.{row-in}
+use Rattle.documents.proofs.KeptStatements.{finished}
 use Rattle.documents.proofs.Faults.{both-none}
 use Rattle.documents.proofs.Faultless.{value-there}
 use Rattle.documents.proofs.Taking.{took-name, took-mark, took-test, took-then, took-else}
@@ -19,7 +20,8 @@ use Rattle.documents.proofs.PartSteps.{Part-steps, parts-faultless}
 use Rattle.documents.proofs.Shifting.{statement-place}
 use Rattle.writing.specs.Bytes.{statement-body}
 use Rattle.writing.specs.Written.{Are-bytes}
-use Rattle.writing.proofs.Laid.{laid, Whole, Hold-bytes, pieces-hold-bytes, laid-pieces}
+use Rattle.documents.specs.Refused.{Whole}
+use Rattle.writing.proofs.Laid.{laid, Hold-bytes, pieces-hold-bytes, laid-pieces}
 use Rattle.writing.proofs.Behind.{whole-push, hold-bytes-parts, said-push}
 use Rattle.writing.proofs.Bodies.{one-byte, mark-is-body, test-is-body, action-is-body}
 use Rattle.writing.proofs.SaidStatements.{Statement-said, said-name, said-mark, said-test, said-then, said-else}
@@ -31,15 +33,6 @@ Bytes-said ps = Hold-bytes ps → Statement-said (laid ps) (last-tag ps) (statem
 -- what is due between two tags stands after the higher one at the latest
 pub due-until : (low last high : ℕ) → (leb low last && leb last high) ≡ true → last ≤ high
 due-until low last high due = leb-true last high (and-parts (leb low last) (leb last high) due .1)
-
--- where a condition alone keeps a fault away, and there is none, the condition is met
-pub condition-met : {X : Type 0} (b : Bool) (x : X) → cond b None (Some x) ≡ None → b ≡ true
-condition-met true x e = refl
-condition-met false x e = let z : _≡_ {A = ℕ} 0 1 = cc in absurd (omega arith)
-
--- a finished statement's last field is a test or an action
-finished : (place last : ℕ) → unfinished place last ≡ None → 18 ≤ last
-finished place last none = leb-true 18 last (condition-met (leb 18 last) _ none)
 
 -- each field without fault goes on from the bytes of the statement so far
 said-steps : (used : List ℕ) → Part-steps used Bytes-said

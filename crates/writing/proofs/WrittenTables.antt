@@ -17,6 +17,8 @@ use Rattle.tables.specs.Rows.{TableRows}
 use Rattle.documents.specs.Fields.{Piece, field, pieces, last-tag, byte}
 use Rattle.documents.specs.Judging.{first-fault}
 use Rattle.documents.specs.Documents.{row-in, plan-in, table-in, names-in, top-fault, no-version, document-fault, unless}
+use Rattle.documents.proofs.Accepting.{answered}
+use Rattle.documents.proofs.KeptStatements.{condition-met}
 use Rattle.documents.proofs.Faults.{both-none}
 use Rattle.documents.proofs.Taking.{same}
 use Rattle.documents.proofs.Pushing.{said-more}
@@ -24,10 +26,11 @@ use Rattle.documents.proofs.Passing.{Version-passes, due-after}
 use Rattle.documents.proofs.TopSteps.{Top-steps, tops-faultless}
 use Rattle.writing.specs.Bytes.{statement-body, spelled-bytes}
 use Rattle.writing.specs.Written.{Are-bytes, Accepted-documents-are-written-tables}
-use Rattle.writing.proofs.Laid.{laid, Whole, Hold-bytes, pieces-hold-bytes, laid-pieces}
+use Rattle.documents.specs.Refused.{Whole}
+use Rattle.writing.proofs.Laid.{laid, Hold-bytes, pieces-hold-bytes, laid-pieces}
 use Rattle.writing.proofs.Behind.{whole-push, hold-bytes-parts, said-push}
 use Rattle.writing.proofs.Bodies.{one-byte}
-use Rattle.writing.proofs.WrittenStatements.{due-until, condition-met, statement-is-body}
+use Rattle.writing.proofs.WrittenStatements.{due-until, statement-is-body}
 use Rattle.writing.proofs.SaidTables.{Table-said, said-version, said-statement, said-plan}
 
 -- pieces that hold bytes are those of the table so far
@@ -102,11 +105,6 @@ document-is-table doc small none =
     let so = tops-faultless Bytes-said said-steps ps (two .0) (λ _. start) (pieces-hold-bytes 0 0 doc small) in
     let late = leb-true 1 (last-tag ps) (condition-met (leb 1 (last-tag ps)) _ (two .1)) in
     (so .spelled, sym (laid-pieces 0 0 doc small whole) ∙ so .said late)
-
--- where a table is answered there is no fault, and it is the table that the pieces say
-answered : (o : Option Told) (said rows : TableRows) → unless o said ≡ Ok rows → (o ≡ None) × (said ≡ rows)
-answered None said rows e = (refl, cc)
-answered (Some fault) said rows e = let z : _≡_ {A = ℕ} 0 1 = cc in absurd (omega arith)
 
 -- an accepted document is the bytes of its table, but that it may spell out absent marks
 pub accepted-documents-are-written-tables : Accepted-documents-are-written-tables
