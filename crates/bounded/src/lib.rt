@@ -1,5 +1,7 @@
 // At most N items in memory of their own, in the order in which they were added: what embedded Rust knows as `ArrayVec`.
 // It knows nothing of what it holds, and never allocates.
+#![tactic(auto)]
+
 ghost use Rattle.std.specs.Prelude.{◌≡◌, ◌≤◌, min, [], ◌∷◌, ◌++◌, length, slice_set};
 ghost use Rattle.bounded.specs.Held.{held, Pushed};
 

@@ -1,5 +1,7 @@
 // Reading table documents: bytes in, a table or a refusal out. It knows the format and the words of a table, and nothing of
 // cells, scans or processors.
+#![tactic(auto)]
+
 pub mod document;
 pub(crate) mod draft;
 pub(crate) mod field;

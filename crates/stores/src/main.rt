@@ -1,5 +1,7 @@
 // Drives a packed image and a forcing store through the same steps, and prints each step and the cells that are ON after it.
 // Then asks the forcing store which cells are forced.
+#![tactic(auto)]
+
 mod frame;
 mod words;
 

@@ -1,6 +1,8 @@
 // The words of a table of statements: cells and flags, families and members, numbers and their entries, tests and actions,
 // statements, action plans, and the refusals that every call may answer. It knows nothing of bytes and documents, of cell
 // stores, or of what a scan does.
+#![tactic(auto)]
+
 pub mod action;
 pub mod cells;
 pub mod code;

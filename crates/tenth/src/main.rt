@@ -1,4 +1,6 @@
 // Reads a table document from standard input, behind its length in two bytes, and prints how it was taken.
+#![tactic(auto)]
+
 ghost use Rattle.std.specs.Prelude.{◌≤◌, length, IfOk};
 
 use console::load::{document_length, load_line};

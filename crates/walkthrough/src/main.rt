@@ -1,5 +1,7 @@
 // What a newcomer runs first: a document is read and its table printed in words; it is written out and read again; and then
 // damaged copies of it are read, each refused with its number, its place and the rule.
+#![tactic(auto)]
+
 mod damage;
 mod document;
 mod round_trip;

@@ -1,4 +1,4 @@
-use Rattle.std.proofs.Common.{◌≡◌, ◌≤◌, length, take, sym, arith, length-take}
+use Rattle.std.proofs.Common.{◌≤◌, length, take, sym, arith, length-take}
 use Rattle.std.proofs.lemmas.List.{set_past}
 use Rattle.bounded.proofs.Fronts.{take_set_same}
 use Rattle.bounded.proofs.BoundedList.replace.Goals as goal
