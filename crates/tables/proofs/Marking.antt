@@ -1,10 +1,10 @@
 -- A statement's mark changed.
-use Rattle.std.proofs.Common.{◌≡◌, ℕ, zero, suc, ◌<◌, ◌≤◌, true, ◌&&◌, leb, List, [], ◌∷◌, map, length, get_or, set, sym, refl, ap, ◌∙◌, arith}
+use Rattle.std.proofs.Common.{◌≡◌, ℕ, zero, suc, ◌<◌, ◌≤◌, ◌&&◌, leb, List, [], ◌∷◌, map, length, get_or, set, sym, refl, ap, ◌∙◌, arith}
 use Rattle.tables.specs.declared.statement.Mark.{Mark}
 use Rattle.tables.specs.declared.statement.Statement.{Statement}
 use Rattle.tables.specs.Limits.{last_name}
 use Rattle.tables.specs.Lists.{every, distinct, rising}
-use Rattle.tables.specs.Rows.{StatementRow, PlanRow, TableRows, statement_row, row_name, row_number, with_row_mark, marked_at}
+use Rattle.tables.specs.Rows.{StatementRow, PlanRow, statement_row, row_name, row_number, with_row_mark, marked_at}
 use Rattle.tables.specs.Rules.{statement_keeps, plan_keeps, table_keeps}
 
 -- past the end nothing changes

@@ -1,5 +1,5 @@
 -- The cells of a family, counted from 0 and from 1.
-use Rattle.std.proofs.Common.{◌≡◌, ℕ, zero, suc, ◌+◌, ◌-◌, ◌*◌, List, [], ◌∷◌, map, refl, arith}
+use Rattle.std.proofs.Common.{◌≡◌, ℕ, zero, suc, ◌+◌, ◌-◌, ◌*◌, map, refl, arith}
 use Rattle.std.specs.List.{range_with_len}
 use Rattle.tables.specs.declared.family.Layout.{Layout}
 use Rattle.tables.specs.Families.{cell_in, member_cell}

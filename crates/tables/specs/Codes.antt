@@ -1,5 +1,5 @@
 -- The codes of a table document, and what each stands for.
-use Rattle.std.specs.Prelude.{ℕ, ◌+◌, ◌*◌, ◌/◌, ◌%◌, Bool, true, false, cond, ◌&&◌, List, [], ◌∷◌, Some, None, Option, nat_le, nat_lt}
+use Rattle.std.specs.Prelude.{ℕ, ◌+◌, ◌*◌, ◌/◌, ◌%◌, cond, ◌&&◌, [], ◌∷◌, Some, None, Option, nat_le, nat_lt}
 use Rattle.tables.specs.declared.place.State.{State}
 use Rattle.tables.specs.declared.place.State.TheVariants.{Off, On}
 use Rattle.tables.specs.declared.place.Place.{Place}

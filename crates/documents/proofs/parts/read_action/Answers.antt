@@ -12,9 +12,9 @@ pub returns-then-above-ge-MAX-ACTIONS : goal.returns-then-above-ge-MAX-ACTIONS
 unfolding action_rules
 returns-then-above-ge-MAX-ACTIONS c = grind (arith, nat_tests)
 
-pub returns-in-default : goal.returns-in-default
+pub returns-in_default : goal.returns-in_default
 unfolding action_rules
-returns-in-default c = grind (arith, nat_tests)
+returns-in_default c = grind (arith, nat_tests)
 
 pub returns-then-sum-of-delays-from : goal.returns-then-sum-of-delays-from
 unfolding action_rules

@@ -15,9 +15,9 @@ pub returns-in-Some : goal.returns-in-Some
 unfolding test_rules
 returns-in-Some c = grind (arith, nat_tests)
 
-pub returns-in-default : goal.returns-in-default
+pub returns-in_default : goal.returns-in_default
 unfolding test_rules
-returns-in-default c = grind (arith, nat_tests)
+returns-in_default c = grind (arith, nat_tests)
 
 pub returns-in-default·2 : goal.returns-in-default·2
 unfolding test_rules

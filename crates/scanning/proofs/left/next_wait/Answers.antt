@@ -42,7 +42,7 @@ loop-action-preserved c =
     let more = at_drop_more delays xs i no_action within in
     let at = at_drop_more (timed wait) xs i no_action within in
     let next = c.wait-below-wait.ensures in
-    let rest = c.in-default.ensures (drop (i + 1) xs) in (
+    let rest = c.in_default.ensures (drop (i + 1) xs) in (
       λ a m. elim (inv.0 a m) [
         | inl low ↦ inl low
         | inr k ↦ elim (rest a (subst (Among a) at k)) [

@@ -3,7 +3,7 @@ use Rattle.touching.specs.Named.{places_in}
 use Rattle.touching.proofs.Finds.{place_in_both}
 use Rattle.touching.proofs.Searches.{found, passed, absent, not_past}
 use Rattle.touching.proofs.sharing.some_names_one_of.Goals as goal
-use Rattle.touching.proofs.sharing.some_names_one_of.Goals.{in-Some+else-some-names, in-default}
+use Rattle.touching.proofs.sharing.some_names_one_of.Goals.{in-Some+else-some-names, in_default}
 
 pub returns-then-some-names : goal.returns-then-some-names
 returns-then-some-names g c =
@@ -14,7 +14,7 @@ loop-k-preserved g c =
     elim c.match-place.branch [
       | in-Some+else-some-names w ↦
           passed (place_in_both _) (places_in c.args.places) c.loop-k.k (sym c.place.ensures ∙ w.in-Some.is) w.some-names.ensures w.if-some-names.false c.loop-k.invariant
-      | in-default w ↦ absurd (not_past (places_in c.args.places) c.loop-k.k (omega arith) (sym c.place.ensures ∙ w.in-default.is))
+      | in_default w ↦ absurd (not_past (places_in c.args.places) c.loop-k.k (omega arith) (sym c.place.ensures ∙ w.in_default.is))
     ]
 
 pub returns : goal.returns

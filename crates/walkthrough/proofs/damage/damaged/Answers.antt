@@ -6,7 +6,7 @@ use Rattle.walkthrough.proofs.damage.damaged.Goals as goal
 pub returns : goal.returns
 returns c =
     three_parts _ _ c.args.damage.put.now _ _ _ _
-    (c.in-ok-bytes.ensures.items
+    (c.in_ok-bytes.ensures.items
     ∙ c.split-at.ensures.front
     ∙ ap (λ k. take k c.args.document.now) c.min.ensures
     ∙ take_within c.args.damage.place c.args.document.now)
@@ -15,5 +15,5 @@ returns c =
     ∙ drop_within c.args.damage.taken c.split-at.result.1.now
     ∙ ap (drop c.args.damage.taken)
     (c.split-at.ensures.back ∙ ap (λ k. drop k c.args.document.now) c.min.ensures ∙ drop_within c.args.damage.place c.args.document.now))
-    c.in-ok-extend-from-slice.ensures.items
-    c.in-ok-extend-from-slice-2.ensures.items
+    c.in_ok-extend-from-slice.ensures.items
+    c.in_ok-extend-from-slice-2.ensures.items

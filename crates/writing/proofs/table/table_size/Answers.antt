@@ -9,11 +9,11 @@ fields-size-statements-requires c = omega (arith, c.statements.ensures.bound)
 pub fields-size-plans-requires : goal.fields-size-plans-requires
 fields-size-plans-requires c = omega (arith, c.plans.ensures.bound)
 
-pub overflow-add-result : goal.overflow-add-result
-overflow-add-result c = omega (arith, c.statements.ensures.bound, c.fields-size-statements.ensures.bound)
+pub overflow_add-result : goal.overflow_add-result
+overflow_add-result c = omega (arith, c.statements.ensures.bound, c.fields-size-statements.ensures.bound)
 
-pub overflow-add-result-2 : goal.overflow-add-result-2
-overflow-add-result-2 c = omega (arith, c.statements.ensures.bound, c.fields-size-statements.ensures.bound, c.plans.ensures.bound, c.fields-size-plans.ensures.bound)
+pub overflow_add-result-2 : goal.overflow_add-result-2
+overflow_add-result-2 c = omega (arith, c.statements.ensures.bound, c.fields-size-statements.ensures.bound, c.plans.ensures.bound, c.fields-size-plans.ensures.bound)
 
 pub returns : goal.returns
 returns c =

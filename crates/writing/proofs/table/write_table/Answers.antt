@@ -36,10 +36,10 @@ put-fields-requires c =
     ) in
     room
 
-pub returns-in-err-check-room : goal.returns-in-err-check-room
-returns-in-err-check-room c =
+pub returns-in_err-check-room : goal.returns-in_err-check-room
+returns-in_err-check-room c =
     let p = err_from_is_err_and c.from-residual.result c.from-residual.ensures.1 in
-    let short = c.in-err-check-room.ensures in
+    let short = c.in_err-check-room.ensures in
     rw (p.1, p.2) (record { written = (short.1 ∙ ap short_by c.table-size-size.ensures, omega (arith, short.0, c.table-size-size.ensures), refl); read_back = tt })
 
 pub returns : goal.returns

@@ -1,5 +1,5 @@
 use Rattle.cells.proofs.Overlays.{apart_from_cleared}
 use Rattle.cells.proofs.forcing.ForcingStore.new.Goals as goal
 
-pub invariant-of-result : goal.invariant-of-result
-invariant-of-result c = (apart_from_cleared _ _ c.new-2.ensures.forced_on c.new-2.ensures.forced_off, tt)
+pub invariant_of-result : goal.invariant_of-result
+invariant_of-result c = (apart_from_cleared _ _ c.new-2.ensures.forced_on c.new-2.ensures.forced_off, tt)

@@ -4,8 +4,8 @@ use Rattle.cells.specs.Tables.{length_tabulated}
 use Rattle.cells.proofs.Overlays.{apart_from_cleared, overlaid_from_cleared}
 use Rattle.cells.proofs.overrides.ForcingStoreCellStore.clear.Goals as goal
 
-pub invariant-of-self : goal.invariant-of-self
-invariant-of-self c = (apart_from_cleared _ _ c.clear-2.ensures.forced_on c.clear-2.ensures.forced_off, tt)
+pub invariant_of-self : goal.invariant_of-self
+invariant_of-self c = (apart_from_cleared _ _ c.clear-2.ensures.forced_on c.clear-2.ensures.forced_off, tt)
 
 pub returns : goal.returns
 returns c =

@@ -4,8 +4,8 @@ use Rattle.cells.specs.Tables.{length_tabulated}
 use Rattle.cells.proofs.Overlays.{apart_from_taken, overlaid_from_taken}
 use Rattle.cells.proofs.overrides.ForcingStoreCellStore.take.Goals as goal
 
-pub invariant-of-self : goal.invariant-of-self
-invariant-of-self c =
+pub invariant_of-self : goal.invariant_of-self
+invariant_of-self c =
     (apart_from_taken (eqb (length c.args.bytes.now) cell_bytes) _ _ _ _ c.take-2.ensures.forced_on c.take-2.ensures.forced_off c.args.self.now.apart, tt)
 
 pub returns : goal.returns

@@ -5,8 +5,8 @@ use Rattle.cells.proofs.Positions.{position_inside}
 use Rattle.cells.proofs.Overlays.{apart_from_set, overlaid_from_set, one_from_set}
 use Rattle.cells.proofs.overrides.ForcingStoreCellStore.write.Goals as goal
 
-pub invariant-of-self : goal.invariant-of-self
-invariant-of-self c =
+pub invariant_of-self : goal.invariant_of-self
+invariant_of-self c =
     let at = cell_position c.args.buffer c.args.code in (
       apart_from_set _ _ _ _ (length_tabulated all_cells _) (length_tabulated all_cells _) at (position_inside c.args.buffer c.args.code) c.args.state
           c.force.ensures.forced_on c.force.ensures.forced_off c.args.self.now.apart,

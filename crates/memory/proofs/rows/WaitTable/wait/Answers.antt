@@ -8,5 +8,5 @@ returns-in-1-to-100 c =
     let e = c.from-row.ensures ∙ row_read c.args.self.now.rows c.index.result _ c.index.ensures in
     record { named = λ _ _. e; unnamed = λ out. grind (arith, nat_tests) }
 
-pub returns-in-default : goal.returns-in-default
-returns-in-default c = record { named = λ low high. grind (arith, nat_tests); unnamed = λ _. c.none.ensures }
+pub returns-in_default : goal.returns-in_default
+returns-in_default c = record { named = λ low high. grind (arith, nat_tests); unnamed = λ _. c.none.ensures }

@@ -1,5 +1,4 @@
-use Rattle.std.proofs.Common.{sym, refl, ap, ◌∙◌, arith}
-use Rattle.tables.specs.Codes.{number_of}
+use Rattle.std.proofs.Common.{sym, refl, arith}
 use Rattle.tables.proofs.number.Number.from_code.Goals as goal
 use Rattle.tables.proofs.Numbers.{number_at, number_past}
 use Rattle.std.proofs.lemmas.Bool.Decides.{nat_tests}
@@ -65,7 +64,7 @@ pub returns-in-175 : goal.returns-in-175
 returns-in-175 c = number_at _ c.args.code refl (sym c.in-175.is)
 
 pub returns-in-0-to-23 : goal.returns-in-0-to-23
-returns-in-0-to-23 c = number_at _ c.args.code refl (omega (arith, c.ring-at.ensures, c.timer-at.ensures))
+returns-in-0-to-23 c = number_at _ c.args.code refl (omega (arith, c.ring_at.ensures, c.timer_at.ensures))
 
 pub returns-in-29-to-32 : goal.returns-in-29-to-32
 returns-in-29-to-32 c = number_at _ c.args.code refl (omega arith)
@@ -76,5 +75,5 @@ returns-in-40-to-103 c = number_at _ c.args.code (grind (arith, nat_tests)) (ome
 pub returns-in-104-to-167 : goal.returns-in-104-to-167
 returns-in-104-to-167 c = number_at _ c.args.code (grind (arith, nat_tests)) (omega arith)
 
-pub returns-in-default : goal.returns-in-default
-returns-in-default c = number_past c.args.code (omega arith)
+pub returns-in_default : goal.returns-in_default
+returns-in_default c = number_past c.args.code (omega arith)

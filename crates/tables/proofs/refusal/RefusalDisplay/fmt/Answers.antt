@@ -10,7 +10,7 @@ returns-in-TouchingPair-clause-writes g c p ok =
     (ap (λ (l : List ℕ). l ++ (codes ": " ++ (decimal c.in-TouchingPair.earlier.0 ++ (codes " and " ++ decimal c.in-TouchingPair.later.0))))
     (c.rule-rule.ensures ∙ ap rule_text c.in-TouchingPair.is)
     ∙ ap refusal_text (sym c.in-TouchingPair.is))
-    (c.write.ensures.shows p ok)
+    (c.write.ensures.writes p ok)
 
 pub returns-in-BufferTooShort-clause-writes : goal.returns-in-BufferTooShort-clause-writes
 returns-in-BufferTooShort-clause-writes g c p ok =
@@ -18,4 +18,4 @@ returns-in-BufferTooShort-clause-writes g c p ok =
     (ap (λ (l : List ℕ). l ++ (codes ": " ++ (decimal c.in-BufferTooShort.needed ++ codes " bytes are needed")))
     (c.rule-rule.ensures ∙ ap rule_text c.in-BufferTooShort.is)
     ∙ ap refusal_text (sym c.in-BufferTooShort.is))
-    (c.write-in-BufferTooShort.ensures.shows p ok)
+    (c.write-in-BufferTooShort.ensures.writes p ok)
