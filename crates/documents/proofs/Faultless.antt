@@ -1,5 +1,6 @@
 -- What holds of a body's start and goes on from each field without fault to the next holds of a body without fault.
-use Rattle.std.proofs.Common.{◌≡◌, ℕ, false, cond, eqb, List, [], ◌∷◌, ◌++◌, Some, None, All, Option, sym, refl, ap, ◌∙◌, subst, ⊎_elim, arith}
+use Rattle.std.proofs.Common.{◌≡◌, ℕ, false, cond, eqb, List, [], ◌∷◌, ◌++◌, Some, None, Option, sym, refl, ap, ◌∙◌, subst, ⊎_elim, arith}
+use Rattle.std.specs.List.{AllByRecursion}
 use Rattle.std.proofs.lemmas.List.{append-nil, append_assoc}
 use Rattle.std.proofs.lemmas.Bool.{cases_Bool, eqb-true, cond-true, cond-false}
 use Rattle.tables.specs.Lists.{absent}
@@ -9,7 +10,7 @@ use Rattle.documents.specs.Judging.{Rules, first, first_fault}
 use Rattle.documents.proofs.Faults.{both_none}
 
 -- where no condition gives a number, none holds
-pub none_holds : (rules : Rules) → first rules ≡ None → All (λ r. r.0 ≡ false) rules
+pub none_holds : (rules : Rules) → first rules ≡ None → AllByRecursion (λ r. r.0 ≡ false) rules
 none_holds [] none = tt
 none_holds (r ∷ rules) none =
     ⊎_elim

@@ -1,5 +1,5 @@
 -- Sums of DELAYs.
-use Rattle.std.proofs.Common.{◌≡◌, ℕ, ◌+◌, List, [], ◌∷◌, ◌++◌, sym, refl, ap, ◌∙◌, arith}
+use Rattle.std.proofs.Common.{◌≡◌, ◌+◌, List, [], ◌∷◌, ◌++◌, arith}
 use Rattle.tables.specs.declared.action.Action.{Action}
 use Rattle.tables.specs.Rules.{delay, delays}
 

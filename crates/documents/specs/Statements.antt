@@ -1,7 +1,7 @@
 -- What the body of a statement's field may hold, what is wrong with it, and the statement that it says.
 -- Its fields are, in this order: 16, the name; 17, the mark, which may be absent; 18, tests; 19, THEN actions; 20, ELSE actions.
 -- `last` is the tag of the field before, 0 at the body's start.
-use Rattle.std.specs.Prelude.{ℕ, ◌+◌, Bool, true, false, cond, not, ◌&&◌, List, [], ◌∷◌, ◌++◌, map, length, Some, None, Option, ◌==◌, nat_le, nat_lt}
+use Rattle.std.specs.Prelude.{ℕ, ◌+◌, Bool, true, cond, not, ◌&&◌, List, [], ◌∷◌, ◌++◌, map, length, Some, None, Option, ◌==◌, nat_le, nat_lt}
 use Rattle.tables.specs.declared.statement.Mark.{Mark}
 use Rattle.tables.specs.declared.statement.Mark.TheVariants.{Disabled}
 use Rattle.tables.specs.declared.test.Join.{Join}

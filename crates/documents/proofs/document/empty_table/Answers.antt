@@ -1,4 +1,4 @@
-use Rattle.std.proofs.Common.{◌≡◌, refl, ap, ◌∙◌}
+use Rattle.std.proofs.Common.{ap}
 use Rattle.tables.specs.Rules.{table_keeps}
 use Rattle.documents.proofs.document.empty_table.Goals as goal
 

@@ -7,9 +7,9 @@ pub returns-then-last-ne0 : goal.returns-then-last-ne0
 unfolding version_rules
 returns-then-last-ne0 c = grind (arith, nat_tests)
 
-pub returns-then-body-ne-THE-VERSION : goal.returns-then-body-ne-THE-VERSION
+pub returns-then-body-ne-THE_VERSION : goal.returns-then-body-ne-THE_VERSION
 unfolding version_rules
-returns-then-body-ne-THE-VERSION c = grind (arith, nat_tests)
+returns-then-body-ne-THE_VERSION c = grind (arith, nat_tests)
 
 pub returns : goal.returns
 unfolding version_rules

@@ -10,7 +10,7 @@ delays_more xs i n d h is = at_drop_more delays xs i d h ∙ ap (λ m. m + delay
 
 pub loop-action-preserved : goal.loop-action-preserved
 loop-action-preserved c =
-    let e = delays_more c.args.actions.now c.loop-action.action-index c.delay-of.result.0 _ (omega arith) c.delay-of.ensures in
+    let e = delays_more c.args.actions.now c.loop-action.action-index c.delay_of.result.0 _ (omega arith) c.delay_of.ensures in
     (omega arith, omega arith)
 
 pub returns : goal.returns

@@ -8,17 +8,17 @@ pub returns-then-not-due : goal.returns-then-not-due
 unfolding action_rules
 returns-then-not-due c = grind (arith, nat_tests)
 
-pub returns-then-above-ge-MAX-ACTIONS : goal.returns-then-above-ge-MAX-ACTIONS
+pub returns-then-above-ge-MAX_ACTIONS : goal.returns-then-above-ge-MAX_ACTIONS
 unfolding action_rules
-returns-then-above-ge-MAX-ACTIONS c = grind (arith, nat_tests)
+returns-then-above-ge-MAX_ACTIONS c = grind (arith, nat_tests)
 
 pub returns-in_default : goal.returns-in_default
 unfolding action_rules
 returns-in_default c = grind (arith, nat_tests)
 
-pub returns-then-sum-of-delays-from : goal.returns-then-sum-of-delays-from
+pub returns-then-sum_of_delays-from : goal.returns-then-sum_of_delays-from
 unfolding action_rules
-returns-then-sum-of-delays-from c =
+returns-then-sum_of_delays-from c =
     let e = delays_push c.args.above.now c.in-Some.value in grind (arith, nat_tests)
 
 pub returns : goal.returns

@@ -11,9 +11,9 @@ pub returns-then-name-lt1 : goal.returns-then-name-lt1
 unfolding name_rules
 returns-then-name-lt1 c = grind (arith, nat_tests)
 
-pub returns-then-is-named : goal.returns-then-is-named
+pub returns-then-is_named : goal.returns-then-is_named
 unfolding name_rules
-returns-then-is-named c = grind (arith, nat_tests)
+returns-then-is_named c = grind (arith, nat_tests)
 
 pub returns : goal.returns
 unfolding name_rules

@@ -7,9 +7,9 @@ pub returns-then-last-lt-NAME : goal.returns-then-last-lt-NAME
 unfolding test_rules
 returns-then-last-lt-NAME c = grind (arith, nat_tests)
 
-pub returns-then-nth-ge-MAX-TESTS : goal.returns-then-nth-ge-MAX-TESTS
+pub returns-then-nth-ge-MAX_TESTS : goal.returns-then-nth-ge-MAX_TESTS
 unfolding test_rules
-returns-then-nth-ge-MAX-TESTS c = grind (arith, nat_tests)
+returns-then-nth-ge-MAX_TESTS c = grind (arith, nat_tests)
 
 pub returns-in-Some : goal.returns-in-Some
 unfolding test_rules
@@ -19,6 +19,6 @@ pub returns-in_default : goal.returns-in_default
 unfolding test_rules
 returns-in_default c = grind (arith, nat_tests)
 
-pub returns-in-default·2 : goal.returns-in-default·2
+pub returns-in_default-2 : goal.returns-in_default-2
 unfolding test_rules
-returns-in-default·2 c = grind (arith, nat_tests)
+returns-in_default-2 c = grind (arith, nat_tests)

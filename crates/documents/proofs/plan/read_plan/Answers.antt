@@ -8,9 +8,9 @@ pub returns-then-not-follows : goal.returns-then-not-follows
 unfolding plan_rules
 returns-then-not-follows c = let e = take_rest c.args.body.now 1 in grind (arith, nat_tests)
 
-pub returns-then-not-in-range : goal.returns-then-not-in-range
+pub returns-then-not-in_range : goal.returns-then-not-in_range
 unfolding plan_rules
-returns-then-not-in-range c = let e = take_rest c.args.body.now 1 in grind (arith, nat_tests)
+returns-then-not-in_range c = let e = take_rest c.args.body.now 1 in grind (arith, nat_tests)
 
 pub returns-then-number-above : goal.returns-then-number-above
 unfolding plan_rules
