@@ -22,13 +22,13 @@ pub loop-position-preserved : goal.loop-position-preserved
 loop-position-preserved g c =
     let cells = g.S.CellStore.cells c.args.store.now in
     let at = c.loop-position.position in
-    let cell = c.cell-at-buffer.result in
+    let cell = c.cell_at-buffer.result in
     let inside : at < length c.loop-position.on = omega (arith, c.loop-position.invariant.0, c.loop-position-test.true) in
-    let here = c.is-on.ensures ∙ read_on cells cell.0 cell.1 at c.read.result c.read.ensures.meaning c.cell-at-buffer.ensures in (
-      length-set c.loop-position.on at c.is-on.result ∙ c.loop-position.invariant.0,
+    let here = c.is_on.ensures ∙ read_on cells cell.0 cell.1 at c.read.result c.read.ensures.meaning c.cell_at-buffer.ensures in (
+      length-set c.loop-position.on at c.is_on.result ∙ c.loop-position.invariant.0,
       below_more _ _
           (λ k h. let ne : k ≢ at = omega arith in rw get_or-set_other (c.loop-position.invariant.1 k h))
-          (get_or-set_same c.loop-position.on at c.is-on.result false inside ∙ here),
+          (get_or-set_same c.loop-position.on at c.is_on.result false inside ∙ here),
     )
 
 pub returns : goal.returns

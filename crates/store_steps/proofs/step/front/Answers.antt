@@ -1,4 +1,4 @@
-use Rattle.std.proofs.Common.{take, sym, arith}
+use Rattle.std.proofs.Common.{sym, arith}
 use Rattle.std.proofs.lemmas.List.{take_all}
 use Rattle.store_steps.proofs.step.front.Goals as goal
 
