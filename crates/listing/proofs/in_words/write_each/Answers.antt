@@ -5,7 +5,7 @@ use Rattle.listing.proofs.in_words.write_each.Goals as goal
 pub loop-part-preserved : goal.loop-part-preserved
 loop-part-preserved g c =
     each_more g.W.Write.write_str_gives g.T.Worded.worded c.args.lead.now c.args.parts.now c.loop-part.part-index c.part-item.result _ _ _
-    (omega arith) c.part-item.is c.loop-part.invariant (λ p. c.in_ok-write.ensures.shows p refl)
+    (omega arith) c.part-item.is c.loop-part.invariant (λ p. c.in_ok-write.ensures.writes p refl)
 
 pub returns : goal.returns
 returns g c p ok =

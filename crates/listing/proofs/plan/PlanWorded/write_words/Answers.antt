@@ -8,6 +8,6 @@ use Rattle.listing.proofs.plan.PlanWorded.write_words.Goals as goal
 pub returns : goal.returns
 returns g c p ok =
     then_written g.W.Write.write_str_gives _ _ _ _ _
-    (λ q. c.in_ok-write.ensures.shows q refl)
-    (written_as g.W.Write.write_str_gives _ _ _ _ (ap (each_text name_text (codes " ")) c.as-slice.ensures.value) (λ q. c.write-each.ensures q ok))
+    (λ q. c.in_ok-write.ensures.writes q refl)
+    (written_as g.W.Write.write_str_gives _ _ _ _ (ap (each_text name_text (codes " ")) c.as_slice.ensures.value) (λ q. c.write_each.ensures q ok))
     p

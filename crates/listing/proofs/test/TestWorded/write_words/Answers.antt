@@ -7,6 +7,6 @@ use Rattle.listing.proofs.test.TestWorded.write_words.Goals as goal
 pub returns-in-StatementIs : goal.returns-in-StatementIs
 returns-in-StatementIs g c p ok =
     written_as g.W.Write.write_str_gives _ _ _ _
-    (ap (λ (l : List ℕ). codes "LOGIC STATEMENT " ++ (decimal c.in-StatementIs.name.0 ++ (codes " IS " ++ l))) c.state-label-in-StatementIs.ensures
+    (ap (λ (l : List ℕ). codes "LOGIC STATEMENT " ++ (decimal c.in-StatementIs.name.0 ++ (codes " IS " ++ l))) c.state_label-in-StatementIs.ensures
     ∙ ap test_text (sym c.in-StatementIs.is))
-    (λ q. c.write-in-StatementIs.ensures.shows q ok) p
+    (λ q. c.write-in-StatementIs.ensures.writes q ok) p
