@@ -7,13 +7,13 @@ pub returns : goal.returns
 returns c =
     three_parts _ _ c.args.damage.put.now _ _ _ _
     (c.in_ok-bytes.ensures.items
-    ∙ c.split-at.ensures.front
+    ∙ c.split_at.ensures.front
     ∙ ap (λ k. take k c.args.document.now) c.min.ensures
     ∙ take_within c.args.damage.place c.args.document.now)
-    (c.split-at-2.ensures.back
-    ∙ ap (λ k. drop k c.split-at.result.1.now) c.min-2.ensures
-    ∙ drop_within c.args.damage.taken c.split-at.result.1.now
+    (c.split_at-2.ensures.back
+    ∙ ap (λ k. drop k c.split_at.result.1.now) c.min-2.ensures
+    ∙ drop_within c.args.damage.taken c.split_at.result.1.now
     ∙ ap (drop c.args.damage.taken)
-    (c.split-at.ensures.back ∙ ap (λ k. drop k c.args.document.now) c.min.ensures ∙ drop_within c.args.damage.place c.args.document.now))
-    c.in_ok-extend-from-slice.ensures.items
-    c.in_ok-extend-from-slice-2.ensures.items
+    (c.split_at.ensures.back ∙ ap (λ k. drop k c.args.document.now) c.min.ensures ∙ drop_within c.args.damage.place c.args.document.now))
+    c.in_ok-extend_from_slice.ensures.items
+    c.in_ok-extend_from_slice-2.ensures.items
