@@ -52,29 +52,44 @@ static ACTIONS: &[ActionRow] = &[
 ];
 
 /// Checks an action behind the fields of a statement, in the branch with this tag, `more` bytes behind the place of its
-/// row.
+/// row. `context` goes behind the label in the message.
 pub fn check_action(
     rt: &impl Abort,
     heap: Global,
     row: &ActionRow,
+    context: &str,
     front: &str,
     tag: u8,
     more: usize,
 ) -> Result<(), Fail> {
     let [which_high, which_low] = row.2.to_be_bytes();
     let document = document_with(rt, heap, front, tag, &[row.1, which_high, which_low, row.3])?;
-    check_row(row.0, &document, row.4, moved(row.4, row.5, more))
+    let label = row.0;
+    check_row(
+        rt,
+        &format_args!("{label}, {context}"),
+        &document,
+        row.4,
+        moved(row.4, row.5, more),
+    );
+    Ok(())
 }
 
 #[test]
 fn values_of_actions(rt: HostRuntime) -> Result<(), Fail> {
     let heap = rt.alloc();
     for row in ACTIONS.iter() {
-        check_action(&rt, heap, row, "n i", 0x13, 0).note("in a THEN action")?;
-        check_action(&rt, heap, row, "n i", 0x14, 0).note("in an ELSE action")?;
-        check_action(&rt, heap, row, "n i t", 0x13, 7).note("in a second THEN action")?;
-        check_action(&rt, heap, row, "n i t", 0x14, 7).note(
+        check_action(&rt, heap, row, "in a THEN action", "n i", 0x13, 0)?;
+        check_action(&rt, heap, row, "in an ELSE action", "n i", 0x14, 0)?;
+        check_action(&rt, heap, row, "in a second THEN action", "n i t", 0x13, 7)?;
+        check_action(
+            &rt,
+            heap,
+            row,
             "in an ELSE action behind a THEN action",
+            "n i t",
+            0x14,
+            7,
         )?;
     }
     Ok(())

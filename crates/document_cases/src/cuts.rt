@@ -46,9 +46,14 @@ fn check_lengths(rt: &impl Abort, heap: Global) -> Result<(), Fail> {
     for cut in LENGTHS.iter() {
         for length in cut.1..=cut.2 {
             let document = with_length(rt, heap, length)?;
-            check_row(cut.0, &document, cut.3, cut.4).note(format_args!(
-                "in a statement of length {length}"
-            ))?;
+            let label = cut.0;
+            check_row(
+                rt,
+                &format_args!("{label}, in a statement of length {length}"),
+                &document,
+                cut.3,
+                cut.4,
+            );
         }
     }
     Ok(())
@@ -59,9 +64,14 @@ fn check_fronts(rt: &impl Abort, example: &[u8]) -> Result<(), Fail> {
         for length in cut.1..=cut.2 {
             let end = usize::from(length);
             assert!(rt; end <= example.len());
-            check_row(cut.0, &example[0..end], cut.3, cut.4).note(format_args!(
-                "in the first {length} bytes"
-            ))?;
+            let label = cut.0;
+            check_row(
+                rt,
+                &format_args!("{label}, in the first {length} bytes"),
+                &example[0..end],
+                cut.3,
+                cut.4,
+            );
         }
     }
     Ok(())

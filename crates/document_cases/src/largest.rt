@@ -78,11 +78,11 @@ fn put_plan(heap: Global, document: &mut Vec<u8>, number: u8, last: u8) -> Resul
     Ok(())
 }
 
-fn check_plans(heap: Global, front: &[u8]) -> Result<(), Fail> {
+fn check_plans(rt: &impl Abort, heap: Global, front: &[u8]) -> Result<(), Fail> {
     for row in PLANS.iter() {
         let mut document = Vec::from_slice(heap, front)?;
         put_plan(heap, &mut document, row.1, row.2)?;
-        check_row(row.0, &document, row.3, row.4)?;
+        check_row(rt, &row.0, &document, row.3, row.4);
     }
     Ok(())
 }
@@ -106,7 +106,7 @@ fn largest_documents(rt: HostRuntime) -> Result<(), Fail> {
     let statements = hundred_statements(&rt, heap, "i")?;
     assert_eq!(rt; statements.len(), 1704);
     check_behind(&rt, heap, &statements, BEHIND_STATEMENTS)?;
-    check_plans(heap, &statements)?;
+    check_plans(&rt, heap, &statements)?;
     let mut longest = longest_document(&rt, heap)?;
     assert_eq!(rt; longest.len(), 34704);
     check_behind(&rt, heap, &longest, BEHIND_THE_LONGEST)?;

@@ -1,6 +1,7 @@
 // A row of a table of documents: how its document is written down, and how its answer is checked.
 use console::load::load_line;
 use std::alloc::Global;
+use std::fmt::Display;
 use std::process::Abort;
 use std::test::Fail;
 
@@ -9,14 +10,20 @@ use std::test::Fail;
 pub struct Row(pub &'static str, pub &'static str, pub u8, pub usize);
 
 /// Fails, with the label, where a document is taken otherwise than by this number at this place.
-pub fn check_row(label: &str, document: &[u8], number: u8, place: usize) -> Result<(), Fail> {
+pub fn check_row<L: Display>(
+    rt: &impl Abort,
+    label: &L,
+    document: &[u8],
+    number: u8,
+    place: usize,
+) {
     let line = load_line(document);
-    if line.number == number && line.place == place {
-        return Ok(());
-    }
     let answered = line.number;
     let at = line.place;
-    Err(Fail::new(format_args!("{label}: {answered} {at} answered, {number} {place} expected")))
+    assert!(rt;
+        answered == number && at == place,
+        "{label}: {answered} {at} answered, {number} {place} expected"
+    );
 }
 
 /// The place of a refusal once `more` bytes stand in front of the field at fault; a document that loads has none.
@@ -94,7 +101,7 @@ pub fn check_behind(rt: &impl Abort, heap: Global, front: &[u8], rows: &[Row]) -
     for row in rows.iter() {
         let mut document = Vec::from_slice(heap, front)?;
         put_text(rt, &mut document, row.1)?;
-        check_row(row.0, &document, row.2, row.3)?;
+        check_row(rt, &row.0, &document, row.2, row.3);
     }
     Ok(())
 }

@@ -64,12 +64,9 @@ fn check_members(rt: &impl Abort, heap: Global) -> Result<(), Fail> {
                 let number = refusal_of(span, member);
                 let test = TestRow(span.0, 4, which, 1, 0, number, moved(number, 11, 0));
                 let action = ActionRow(span.0, 4, which, 1, number, moved(number, 21, 0));
-                check_test(rt, heap, &test, "n", 0, 0).note(format_args!(
-                    "family {family}, member {member}"
-                ))?;
-                check_action(rt, heap, &action, "n i", 0x13, 0).note(format_args!(
-                    "family {family}, member {member}"
-                ))?;
+                let context = format!(in heap; "family {family}, member {member}")?;
+                check_test(rt, heap, &test, &context, "n", 0, 0)?;
+                check_action(rt, heap, &action, &context, "n i", 0x13, 0)?;
             }
         }
     }
@@ -83,9 +80,8 @@ fn check_entries(rt: &impl Abort, heap: Global) -> Result<(), Fail> {
             for entry in [0, span.3, span.4, span.4.saturating_add(1), 65535] {
                 let number = refusal_of(span, entry);
                 let row = TestRow(span.0, 6, which, 0, entry, number, moved(number, 11, 0));
-                check_test(rt, heap, &row, "n", 0, 0).note(format_args!(
-                    "number {which}, entry {entry}"
-                ))?;
+                let context = format!(in heap; "number {which}, entry {entry}")?;
+                check_test(rt, heap, &row, &context, "n", 0, 0)?;
             }
         }
     }

@@ -542,14 +542,22 @@ static DELAYS: &[Row] = &[
 fn check_statements(rt: &impl Abort, heap: Global, rows: &[Row]) -> Result<(), Fail> {
     for row in rows.iter() {
         let fields = bytes_of(rt, heap, row.1)?;
+        let label = row.0;
         check_row(
-            row.0,
+            rt,
+            &label,
             &document_of(rt, heap, "v", &fields, "")?,
             row.2,
             row.3,
-        )?;
+        );
         let second = document_of(rt, heap, "v s", &fields, "p")?;
-        check_row(row.0, &second, row.2, moved(row.2, row.3, 17)).note("in the second statement")?;
+        check_row(
+            rt,
+            &format_args!("{label}, in the second statement"),
+            &second,
+            row.2,
+            moved(row.2, row.3, 17),
+        );
     }
     Ok(())
 }

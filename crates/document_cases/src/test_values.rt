@@ -106,11 +106,13 @@ static TESTS: &[TestRow] = &[
     TestRow("entry 101 of number 171", 6, 171, 0, 101, 4, 11),
 ];
 
-/// Checks a test behind the fields of a statement, `more` bytes behind the place of its row.
+/// Checks a test behind the fields of a statement, `more` bytes behind the place of its row. `context` goes
+/// behind the label in the message.
 pub fn check_test(
     rt: &impl Abort,
     heap: Global,
     row: &TestRow,
+    context: &str,
     front: &str,
     join: u8,
     more: usize,
@@ -121,15 +123,23 @@ pub fn check_test(
         join, row.1, which_high, which_low, row.3, entry_high, entry_low,
     ];
     let document = document_with(rt, heap, front, 0x12, &body)?;
-    check_row(row.0, &document, row.5, moved(row.5, row.6, more))
+    let label = row.0;
+    check_row(
+        rt,
+        &format_args!("{label}, {context}"),
+        &document,
+        row.5,
+        moved(row.5, row.6, more),
+    );
+    Ok(())
 }
 
 #[test]
 fn values_of_tests(rt: HostRuntime) -> Result<(), Fail> {
     let heap = rt.alloc();
     for row in TESTS.iter() {
-        check_test(&rt, heap, row, "n", 0, 0)?;
-        check_test(&rt, heap, row, "n i", 2, 10).note("in a second test")?;
+        check_test(&rt, heap, row, "in a first test", "n", 0, 0)?;
+        check_test(&rt, heap, row, "in a second test", "n i", 2, 10)?;
     }
     Ok(())
 }
