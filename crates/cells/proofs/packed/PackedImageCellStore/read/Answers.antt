@@ -9,6 +9,6 @@ returns-in-Some c =
     let cells = image c.args.self.now.bytes in
     let e = getD_tabulated all_cells (packed_cell c.args.self.now.bytes) c.in-Some.at false p.inside in
     record {
-      meaning = c.state-when.ensures ∙ (ap state_when (c.cell.ensures ∙ sym e)
+      meaning = c.state_when.ensures ∙ (ap state_when (c.cell.ensures ∙ sym e)
           ∙ ap (λ (q : Option ℕ). state_when (at_position cells q)) p.place);
     }
