@@ -1,6 +1,6 @@
 -- The cells of a store, and what each operation makes of them. A store's cells are one list, true for ON: those of the input
 -- buffer by their codes, then those of the output buffer.
-use Rattle.std.specs.Prelude.{ℕ, ◌+◌, ◌/◌, ◌%◌, Bool, true, false, cond, List, length, set, replicate, Some, None, Option, ◌==◌, nat_lt, slice_index, slice_index_or, slice_set}
+use Rattle.std.specs.Prelude.{ℕ, ◌+◌, ◌/◌, ◌%◌, Bool, true, false, cond, List, length, replicate, Some, None, Option, ◌==◌, nat_lt, slice_index, slice_index_or, slice_set}
 use Rattle.tables.specs.Limits.{input_cells, output_cells}
 use Rattle.tables.specs.declared.place.Buffer.{Buffer}
 use Rattle.tables.specs.declared.place.Buffer.TheVariants.{Input, Output}

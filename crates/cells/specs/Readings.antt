@@ -1,8 +1,8 @@
 -- What reads answer after other operations.
-use Rattle.std.specs.Prelude.{◌≡◌, ℕ, ◌+◌, ◌/◌, ◌%◌, Bool, true, false, cond, List, ◌≢◌, nat_lt, slice_index}
+use Rattle.std.specs.Prelude.{◌≡◌, ℕ, ◌+◌, ◌/◌, ◌%◌, cond, List, ◌≢◌, nat_lt, slice_index}
 use Rattle.tables.specs.declared.place.Buffer.{Buffer}
 use Rattle.tables.specs.declared.place.State.{State}
-use Rattle.tables.specs.declared.place.State.TheVariants.{Off, On}
+use Rattle.tables.specs.declared.place.State.TheVariants.{Off}
 use Rattle.cells.specs.Bits.{bit}
 use Rattle.cells.specs.Cells.{buffer_cells, first_cell, state_when}
 

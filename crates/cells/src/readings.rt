@@ -15,7 +15,7 @@ pub fn written_is_read_back<S: CellStore>(
     state: State,
 ) -> State
     ensures back { result ≡ within buffer code state }
-    ensures after { cells store.new ≡ written (cells store.old) buffer code state }
+    ensures after { S.cells store.new ≡ written (S.cells store.old) buffer code state }
 {
     store.write(buffer, code, state);
     store.read(buffer, code)
@@ -28,9 +28,9 @@ pub fn one_write_leaves_every_other<S: CellStore>(
     state: State,
     another: (Buffer, u16),
 ) -> State
-    ensures left { Different target.0 target.1 another.0 another.1 → result ≡ held (cells store.old) another.0 another.1 }
-    ensures value { result ≡ held (cells store.new) another.0 another.1 }
-    ensures after { cells store.new ≡ written (cells store.old) target.0 target.1 state }
+    ensures left { Different target.0 target.1 another.0 another.1 → result ≡ held (S.cells store.old) another.0 another.1 }
+    ensures value { result ≡ held (S.cells store.new) another.0 another.1 }
+    ensures after { S.cells store.new ≡ written (S.cells store.old) target.0 target.1 state }
 {
     store.write(target.0, target.1, state);
     store.read(another.0, another.1)
@@ -44,8 +44,8 @@ pub fn taken_frame_is_read<S: CellStore>(
     code: u16,
 ) -> State
     ensures from_bytes { length bytes.now ≡ cell_bytes → result ≡ within buffer code (frame_state bytes.now buffer code) }
-    ensures value { result ≡ held (cells store.new) buffer code }
-    ensures after { cells store.new ≡ taken (cells store.old) bytes.now }
+    ensures value { result ≡ held (S.cells store.new) buffer code }
+    ensures after { S.cells store.new ≡ taken (S.cells store.old) bytes.now }
 {
     store.take(bytes);
     store.read(buffer, code)

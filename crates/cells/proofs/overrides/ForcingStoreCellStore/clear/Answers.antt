@@ -5,7 +5,7 @@ use Rattle.cells.proofs.Overlays.{apart_from_cleared, overlaid_from_cleared}
 use Rattle.cells.proofs.overrides.ForcingStoreCellStore.clear.Goals as goal
 
 pub invariant_of-self : goal.invariant_of-self
-invariant_of-self c = (apart_from_cleared _ _ c.clear-2.ensures.forced_on c.clear-2.ensures.forced_off, tt)
+invariant_of-self c = record { apart = apart_from_cleared _ _ c.clear-2.ensures.forced_on c.clear-2.ensures.forced_off }
 
 pub returns : goal.returns
 returns c =

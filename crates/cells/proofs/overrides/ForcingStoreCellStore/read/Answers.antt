@@ -1,6 +1,6 @@
-use Rattle.std.proofs.Common.{◌≡◌, Bool, Option, sym, ap, ◌∙◌}
+use Rattle.std.proofs.Common.{Bool, Option, sym, ap, ◌∙◌}
 use Rattle.tables.specs.declared.place.State.{State}
-use Rattle.cells.specs.Cells.{cell_position, at_position, state_when, is_on}
+use Rattle.cells.specs.Cells.{cell_position, at_position, is_on}
 use Rattle.cells.specs.Masks.{on_mask, off_mask, forced_or, forced_state}
 use Rattle.cells.specs.Forcing.{own_cells, Seen}
 use Rattle.cells.proofs.Positions.{position_inside}

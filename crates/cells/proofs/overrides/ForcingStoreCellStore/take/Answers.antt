@@ -6,7 +6,7 @@ use Rattle.cells.proofs.overrides.ForcingStoreCellStore.take.Goals as goal
 
 pub invariant_of-self : goal.invariant_of-self
 invariant_of-self c =
-    (apart_from_taken (eqb (length c.args.bytes.now) cell_bytes) _ _ _ _ c.take-2.ensures.forced_on c.take-2.ensures.forced_off c.args.self.now.apart, tt)
+    record { apart = apart_from_taken (eqb (length c.args.bytes.now) cell_bytes) _ _ _ _ c.take-2.ensures.forced_on c.take-2.ensures.forced_off c.args.self.now.apart }
 
 pub returns : goal.returns
 returns c =

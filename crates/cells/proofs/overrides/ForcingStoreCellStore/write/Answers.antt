@@ -7,11 +7,11 @@ use Rattle.cells.proofs.overrides.ForcingStoreCellStore.write.Goals as goal
 
 pub invariant_of-self : goal.invariant_of-self
 invariant_of-self c =
-    let at = cell_position c.args.buffer c.args.code in (
-      apart_from_set _ _ _ _ (length_tabulated all_cells _) (length_tabulated all_cells _) at (position_inside c.args.buffer c.args.code) c.args.state
-          c.force.ensures.forced_on c.force.ensures.forced_off c.args.self.now.apart,
-      tt,
-    )
+    let at = cell_position c.args.buffer c.args.code in
+    record {
+      apart = apart_from_set _ _ _ _ (length_tabulated all_cells _) (length_tabulated all_cells _) at (position_inside c.args.buffer c.args.code) c.args.state
+          c.force.ensures.forced_on c.force.ensures.forced_off c.args.self.now.apart;
+    }
 
 pub returns : goal.returns
 returns c =
