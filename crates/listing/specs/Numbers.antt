@@ -1,6 +1,5 @@
 -- What the numbers of a frame are called.
 use Rattle.std.specs.Prelude.{ℕ, List, [], ◌++◌, Some, None, codes, decimal, Option}
-use Rattle.tables.specs.declared.number.Ring.{Ring}
 use Rattle.tables.specs.declared.number.Timer.{Timer}
 use Rattle.tables.specs.declared.number.Timer.TheVariants.{MinGreen, MaxGreen, Yellow, RedClear, Walk, PedClear}
 use Rattle.tables.specs.declared.number.Number.{Number}

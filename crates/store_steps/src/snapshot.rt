@@ -22,7 +22,7 @@ fn cell_at(position: u16) -> (Buffer, u16)
 
 /// Whether each cell is ON: those of the input buffer by their codes, then those of the output buffer.
 pub fn snapshot<S: CellStore>(store: &S) -> [bool; CELLS]
-    ensures { result ≡ cells store.now }
+    ensures { result ≡ S.cells store.now }
 {
     let mut on = [false; CELLS];
     for position in 0..CELLS {

@@ -37,8 +37,8 @@ fn front(frame: &[u8], count: usize) -> &[u8]
 
 // Does a step, and says what it answers.
 fn apply<S: CellStore>(store: &mut S, frame: &[u8], step: Step) -> Option<State>
-    ensures meaning { cells store.new ≡ cells_after (cells store.old) frame.now step }
-    ensures answer { result ≡ step_answer (cells store.old) step }
+    ensures meaning { S.cells store.new ≡ cells_after (S.cells store.old) frame.now step }
+    ensures answer { result ≡ step_answer (S.cells store.old) step }
 {
     match step {
         Step::Clear => store.clear(),
@@ -51,9 +51,9 @@ fn apply<S: CellStore>(store: &mut S, frame: &[u8], step: Step) -> Option<State>
 
 /// Does a step, and pictures the cells after it. Whatever the store, the same cells and the same step give the same outcome.
 pub fn perform<S: CellStore>(store: &mut S, frame: &[u8], step: Step) -> Outcome
-    ensures meaning { cells store.new ≡ cells_after (cells store.old) frame.now step }
-    ensures pictured { result.cells ≡ cells_after (cells store.old) frame.now step }
-    ensures answer { result.answer ≡ step_answer (cells store.old) step }
+    ensures meaning { S.cells store.new ≡ cells_after (S.cells store.old) frame.now step }
+    ensures pictured { result.cells ≡ cells_after (S.cells store.old) frame.now step }
+    ensures answer { result.answer ≡ step_answer (S.cells store.old) step }
 {
     let answer = apply(store, frame, step);
     Outcome {

@@ -1,5 +1,5 @@
 -- Acceptance is being the writing of a table that keeps the rules.
-use Rattle.std.proofs.Common.{◌≡◌, ◌↔◌, ap, ◌∙◌}
+use Rattle.std.proofs.Common.{ap, ◌∙◌}
 use Rattle.documents.proofs.Accepting.{accepted_tables_keep_the_rules}
 use Rattle.documents.specs.Documents.{reading}
 use Rattle.writing.specs.Written.{AcceptanceIsBeingAWrittenTable}

@@ -1,5 +1,6 @@
 -- What a field's rules ask is enough: a field that meets each condition of its rules is given no number.
-use Rattle.std.proofs.Common.{◌≡◌, ℕ, suc, Bool, false, ◌&&◌, eqb, ltb, leb, List, [], ◌∷◌, length, drop, Some, None, All, refl, ◌∙◌}
+use Rattle.std.proofs.Common.{◌≡◌, ℕ, suc, Bool, false, ◌&&◌, eqb, ltb, leb, List, [], ◌∷◌, length, drop, Some, None, refl, ◌∙◌}
+use Rattle.std.specs.List.{AllByRecursion}
 use Rattle.std.proofs.lemmas.Bool.{not_from_true, cond-false}
 use Rattle.tables.specs.declared.action.Action.{Action}
 use Rattle.tables.specs.Limits.{last_name, counted_to}
@@ -12,7 +13,7 @@ use Rattle.documents.specs.Documents.{version_rules, plan_rules}
 use Rattle.documents.proofs.Passing.{NamePasses, MarkPasses, TestPasses, ActionPasses, VersionPasses, PlanPasses}
 
 -- where no condition holds, none gives a number
-none_given : (rules : Rules) → All (λ r. r.0 ≡ false) rules → first rules ≡ None
+none_given : (rules : Rules) → AllByRecursion (λ r. r.0 ≡ false) rules → first rules ≡ None
 none_given [] none = refl
 none_given (r ∷ rules) none = cond-false r.0 (Some r.1) (first rules) none.0 ∙ none_given rules none.1
 

@@ -1,6 +1,6 @@
 -- What one more field changes in the pieces laid end to end.
-use Rattle.std.proofs.Common.{◌≡◌, ℕ, List, [], ◌∷◌, ◌++◌, All, sym, ap, ◌∙◌, subst}
-use Rattle.std.specs.List.{flat_map}
+use Rattle.std.proofs.Common.{◌≡◌, ℕ, List, [], ◌∷◌, ◌++◌, sym, ap, ◌∙◌, subst}
+use Rattle.std.specs.List.{flat_map, AllByRecursion}
 use Rattle.std.proofs.lemmas.List.{flat_map_more}
 use Rattle.documents.specs.Fields.{Piece, field, cut, last_tag}
 use Rattle.documents.proofs.Taking.{tag_push}
@@ -14,7 +14,7 @@ pub joined_push : {X : Type 0} (f : X → List ℕ) (xs : List X) (x : X) → fl
 joined_push f xs x = sym (flat_map_more f [] xs x)
 
 -- what holds of each of a list with one more holds of each of the list, and of the one
-all_parts : {X : Type 0} (P : X → Type 0) (xs : List X) (x : X) → All P (xs ++ x ∷ []) → All P xs × P x
+all_parts : {X : Type 0} (P : X → Type 0) (xs : List X) (x : X) → AllByRecursion P (xs ++ x ∷ []) → AllByRecursion P xs × P x
 all_parts P [] x all = (tt, all.0)
 all_parts P (y ∷ xs) x all = let rest = all_parts P xs x all.1 in ((all.0, rest.0), rest.1)
 

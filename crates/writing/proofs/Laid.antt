@@ -1,8 +1,8 @@
 -- The pieces of bytes, laid end to end, are the bytes, where none of them is cut.
-use Rattle.std.proofs.Common.{◌≡◌, ℕ, zero, suc, ◌+◌, ◌/◌, ◌%◌, ◌<◌, Bool, true, false, cond, leb, List, [], ◌∷◌, length, take, drop, All, sym, refl, subst, ⊎_elim, arith}
-use Rattle.std.specs.List.{flat_map}
+use Rattle.std.proofs.Common.{◌≡◌, ℕ, zero, suc, ◌+◌, ◌/◌, ◌%◌, ◌<◌, Bool, true, false, cond, leb, List, [], ◌∷◌, length, take, drop, sym, refl, subst, ⊎_elim, arith}
+use Rattle.std.specs.List.{flat_map, AllByRecursion}
 use Rattle.std.proofs.lemmas.List.{length-take-le, take-append-drop}
-use Rattle.std.proofs.lemmas.List.Elements.{All-take}
+use Rattle.std.proofs.lemmas.List.Elements.{All-nil, All-head, All-tail, All-take}
 use Rattle.std.proofs.lemmas.Bool.{cases_Bool, leb-true}
 use Rattle.documents.specs.Refused.{Whole}
 use Rattle.documents.specs.Fields.{Piece, field, cut, wide, pieces}
@@ -25,7 +25,7 @@ laid ps = flat_map piece_bytes ps
 
 -- every piece's body is made of bytes
 abbrev pub HoldBytes : List Piece → Type 0
-HoldBytes ps = All (λ p. AreBytes (piece_body p)) ps
+HoldBytes ps = AllByRecursion (λ p. AreBytes (piece_body p)) ps
 
 -- a number made of two bytes is those two bytes again
 pub two_wide : (high low : ℕ) → low < 256 → two (wide high low) ≡ high ∷ low ∷ []
@@ -34,24 +34,30 @@ two_wide high low small =
     let y : wide high low % 256 ≡ low = omega arith in
     cc
 
+-- bytes behind three others
+behind_three : (a h l : ℕ) (bs : List ℕ) → AreBytes (a ∷ h ∷ l ∷ bs) → (l < 256) × AreBytes bs
+behind_three a h l bs small =
+    let three : AreBytes (l ∷ bs) = All-tail (λ b. b < 256) h (l ∷ bs) (All-tail (λ b. b < 256) a (h ∷ l ∷ bs) small) in
+    (All-head (λ b. b < 256) l bs three, All-tail (λ b. b < 256) l bs three)
+
 -- the pieces of bytes hold bytes
 pub pieces_hold_bytes : (place k : ℕ) (bs : List ℕ) → AreBytes bs → HoldBytes (pieces place k bs)
 pieces_hold_bytes place zero [] small = tt
 pieces_hold_bytes place (suc k) [] small = tt
-pieces_hold_bytes place (suc k) (b ∷ bs) small = pieces_hold_bytes (place + 1) k bs small.1
-pieces_hold_bytes place zero (a ∷ []) small = (tt, tt)
-pieces_hold_bytes place zero (a ∷ h ∷ []) small = (tt, tt)
+pieces_hold_bytes place (suc k) (b ∷ bs) small = pieces_hold_bytes (place + 1) k bs (All-tail (λ b. b < 256) b bs small)
+pieces_hold_bytes place zero (a ∷ []) small = (All-nil (λ b. b < 256), tt)
+pieces_hold_bytes place zero (a ∷ h ∷ []) small = (All-nil (λ b. b < 256), tt)
 pieces_hold_bytes place zero (a ∷ h ∷ l ∷ bs) small =
     elim (leb (wide h l) (length bs)) as (λ b. HoldBytes (cond b (field place a (take (wide h l) bs) ∷ pieces (place + 3) (wide h l) bs) (cut place ∷ []))) [
-      | true ↦ (All-take (λ b. b < 256) (wide h l) bs small.1.1.1, pieces_hold_bytes (place + 3) (wide h l) bs small.1.1.1)
-      | false ↦ (tt, tt)
+      | true ↦ (All-take (λ b. b < 256) (wide h l) bs (behind_three a h l bs small).1, pieces_hold_bytes (place + 3) (wide h l) bs (behind_three a h l bs small).1)
+      | false ↦ (All-nil (λ b. b < 256), tt)
     ]
 
 -- whole pieces of bytes, laid end to end, are the bytes
 pub laid_pieces : (place k : ℕ) (bs : List ℕ) → AreBytes bs → Whole (pieces place k bs) → laid (pieces place k bs) ≡ drop k bs
 laid_pieces place zero [] small whole = refl
 laid_pieces place (suc k) [] small whole = refl
-laid_pieces place (suc k) (b ∷ bs) small whole = laid_pieces (place + 1) k bs small.1 whole
+laid_pieces place (suc k) (b ∷ bs) small whole = laid_pieces (place + 1) k bs (All-tail (λ b. b < 256) b bs small) whole
 laid_pieces place zero (a ∷ []) small whole = absurd whole
 laid_pieces place zero (a ∷ h ∷ []) small whole = absurd whole
 laid_pieces place zero (a ∷ h ∷ l ∷ bs) small whole =
@@ -60,8 +66,8 @@ laid_pieces place zero (a ∷ h ∷ l ∷ bs) small whole =
     ⊎_elim
     (λ is. subst G (sym is) (λ w.
     let n = length-take-le (wide h l) bs (leb-true (wide h l) (length bs) is) in
-    let t = two_wide h l small.1.1.0 in
-    let r = laid_pieces (place + 3) (wide h l) bs small.1.1.1 w in
+    let t = two_wide h l (behind_three a h l bs small).0 in
+    let r = laid_pieces (place + 3) (wide h l) bs (behind_three a h l bs small).1 w in
     let j = take-append-drop (wide h l) bs in
     cc) whole)
     (λ isnt. absurd (subst (λ b. Whole (either b)) isnt whole))

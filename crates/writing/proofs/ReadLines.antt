@@ -1,6 +1,5 @@
 -- Reading the written tests of a statement, and the written actions of a branch.
 use Rattle.std.proofs.Common.{◌≡◌, ℕ, Bool, true, false, ◌&&◌, eqb, ltb, leb, List, [], ◌∷◌, ◌++◌, length, refl, ap, ◌∙◌, subst, append_assoc, arith}
-use Rattle.std.specs.List.{flat_map}
 use Rattle.std.proofs.lemmas.Bool.{and_parts}
 use Rattle.tables.specs.declared.statement.Mark.{Mark}
 use Rattle.tables.specs.declared.test.Join.{Join}

@@ -1,5 +1,5 @@
 -- How long the parts of a statement are.
-use Rattle.std.proofs.Common.{◌≡◌, ℕ, ◌+◌, ◌*◌, ◌≤◌, Bool, false, List, [], ◌∷◌, ◌++◌, length, refl, arith}
+use Rattle.std.proofs.Common.{◌≡◌, ℕ, ◌+◌, ◌*◌, ◌≤◌, false, List, [], ◌∷◌, ◌++◌, length, refl, arith}
 use Rattle.std.proofs.lemmas.List.{length-append}
 use Rattle.tables.specs.declared.statement.Mark.{Mark}
 use Rattle.tables.specs.declared.statement.Mark.TheVariants.{Enabled, Disabled, Planned}

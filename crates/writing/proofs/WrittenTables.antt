@@ -1,13 +1,11 @@
 -- An accepted document is the bytes of its table.
-use Rattle.std.proofs.Common.{◌≡◌, ℕ, suc, Bool, true, leb, List, [], ◌∷◌, ◌++◌, length, drop, Some, None, Ok, Option, sym, refl, ap, ◌∙◌, arith}
+use Rattle.std.proofs.Common.{◌≡◌, ℕ, suc, Bool, true, leb, List, [], ◌∷◌, ◌++◌, length, drop, None, sym, refl, ap, ◌∙◌, arith}
 use Rattle.std.proofs.lemmas.List.{drop_more}
 use Rattle.std.proofs.lemmas.Bool.{and_parts, leb-true, eqb-true}
 use Rattle.tables.specs.Limits.{last_name, counted_to}
-use Rattle.tables.specs.Refusals.{Told}
-use Rattle.tables.specs.Rows.{TableRows}
 use Rattle.documents.specs.Fields.{Piece, field, pieces, last_tag, byte}
 use Rattle.documents.specs.Judging.{first_fault}
-use Rattle.documents.specs.Documents.{row_in, plan_in, table_in, names_in, top_fault, no_version, document_fault, unless}
+use Rattle.documents.specs.Documents.{row_in, plan_in, table_in, names_in, top_fault, no_version, document_fault}
 use Rattle.documents.proofs.Accepting.{answered}
 use Rattle.documents.proofs.KeptStatements.{condition_met}
 use Rattle.documents.proofs.Faults.{both_none}

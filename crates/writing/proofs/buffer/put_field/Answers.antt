@@ -6,4 +6,4 @@ use Rattle.writing.proofs.buffer.put_field.Goals as goal
 pub returns : goal.returns
 returns g c =
     wrote_same (ap (λ n. c.args.tag ∷ (two n ++ g.T.Body.body c.args.item.now)) c.size-size.ensures.value)
-    (wrote_more c.put-bytes-at.ensures c.put-body.ensures)
+    (wrote_more c.put_bytes-at.ensures c.put_body.ensures)

@@ -9,23 +9,23 @@ pub returns : goal.returns
 returns c =
     let s = c.args.self.now in
     let whole = body_size (statement_row s) in
-    let tests : c.fields-size-tests.result ≡ length (tests_bytes (held s.tests)) = c.fields-size-tests.ensures.value 18 ∙ ap (λ ts. length (tests_bytes ts)) c.as-slice.ensures.value in
-    let thens : c.fields-size-thens.result ≡ length (actions_bytes 19 (held s.then_actions)) = c.fields-size-thens.ensures.value 19 ∙ ap (λ l. length (actions_bytes 19 l)) c.as-slice-2.ensures.value in
-    let elses : c.fields-size-elses.result ≡ length (actions_bytes 20 (held s.else_actions)) = c.fields-size-elses.ensures.value 20 ∙ ap (λ l. length (actions_bytes 20 l)) c.as-slice-3.ensures.value in
+    let tests : c.fields_size-tests.result ≡ length (tests_bytes (held s.tests)) = c.fields_size-tests.ensures.value 18 ∙ ap (λ ts. length (tests_bytes ts)) c.as_slice.ensures.value in
+    let thens : c.fields_size-thens.result ≡ length (actions_bytes 19 (held s.then_actions)) = c.fields_size-thens.ensures.value 19 ∙ ap (λ l. length (actions_bytes 19 l)) c.as_slice-2.ensures.value in
+    let elses : c.fields_size-elses.result ≡ length (actions_bytes 20 (held s.else_actions)) = c.fields_size-elses.ensures.value 20 ∙ ap (λ l. length (actions_bytes 20 l)) c.as_slice-3.ensures.value in
     record {
-      value = omega (arith, c.mark-size.ensures);
+      value = omega (arith, c.mark_size.ensures);
       bound = omega (
         arith,
-        c.mark-size.ensures,
+        c.mark_size.ensures,
         mark_small s.mark,
         tests_size (held s.tests),
         actions_size 19 (held s.then_actions),
         actions_size 20 (held s.else_actions),
-        ap length c.as-slice.ensures.value,
-        ap length c.as-slice-2.ensures.value,
-        ap length c.as-slice-3.ensures.value,
-        c.as-slice.ensures.bound,
-        c.as-slice-2.ensures.bound,
-        c.as-slice-3.ensures.bound,
+        ap length c.as_slice.ensures.value,
+        ap length c.as_slice-2.ensures.value,
+        ap length c.as_slice-3.ensures.value,
+        c.as_slice.ensures.bound,
+        c.as_slice-2.ensures.bound,
+        c.as_slice-3.ensures.bound,
       );
     }
