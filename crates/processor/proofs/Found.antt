@@ -1,5 +1,5 @@
 -- The statement of a name, and its mark changed.
-use Rattle.std.proofs.Common.{◌≡◌, ℕ, zero, suc, ◌<◌, Bool, true, false, cond, eqb, List, [], ◌∷◌, map, length, get_or, sym, refl, ap, ◌∙◌, subst, ap₂, inl, inr, arith, eq-eqb, ne_eqb}
+use Rattle.std.proofs.Common.{◌≡◌, ℕ, zero, suc, ◌<◌, cond, List, [], ◌∷◌, map, length, get_or, sym, refl, ap, ◌∙◌, ap₂, inl, inr, arith, eq-eqb, ne_eqb}
 use Rattle.tables.specs.declared.statement.Mark.{Mark}
 use Rattle.tables.specs.declared.statement.Statement.{Statement}
 use Rattle.tables.specs.Lists.{Among}

@@ -18,7 +18,7 @@ impl<S: CellStore> Processor<S> {
     fn give_mark(&mut self, name: Name, at: usize, mark: Mark) -> usize
         requires { StandsAt (held self.old.table.statements) name.0 at }
         ensures zero { result ≡ 0 }
-        ensures after { state cells self.new ≡ record { table = switched name.0 true (Some mark) (state cells self.old).table; memory = (state cells self.old).memory } }
+        ensures after { state S.cells self.new ≡ record { table = switched name.0 true (Some mark) (state S.cells self.old).table; memory = (state S.cells self.old).memory } }
     {
         self.table.set_mark(at, mark);
         0
@@ -26,7 +26,7 @@ impl<S: CellStore> Processor<S> {
 
     /// Gives the statement of a name the mark of a character, E, D or the full stop, and answers 0.
     pub fn switch(&mut self, name: Name, character: char) -> Result<usize, Refusal>
-        ensures { Rule (switch-call name.0 character) (state cells self.old) (answered result) (state cells self.new) }
+        ensures { Rule (switch-call name.0 character) (state S.cells self.old) (answered result) (state S.cells self.new) }
     {
         let Some(at) = find(self.table.statements(), name) else {
             return Err(Refusal::NoSuchStatement);
@@ -41,7 +41,7 @@ impl<S: CellStore> Processor<S> {
 
     /// Turns all cells and flags OFF and makes every name hold no branch, and answers 0. Table, order and marks stay.
     pub fn restart(&mut self) -> usize
-        ensures { Rule restart-call (state cells self.old) (Ok result) (state cells self.new) }
+        ensures { Rule restart-call (state S.cells self.old) (Ok result) (state S.cells self.new) }
     {
         self.clear();
         0

@@ -20,7 +20,7 @@ use writing::table::{write_order, write_table};
 impl<S: CellStore> Processor<S> {
     /// A processor over a store, restarted and with an empty table.
     pub fn new(store: S) -> Self
-        ensures { state cells result ≡ fresh (table_in []) }
+        ensures { state S.cells result ≡ fresh (table_in []) }
     {
         let mut store = store;
         store.clear();
@@ -34,7 +34,7 @@ impl<S: CellStore> Processor<S> {
 
     // Turns all cells and flags OFF, and makes every name hold no branch.
     pub(crate) fn clear(&mut self)
-        ensures { state cells self.new ≡ fresh (state cells self.old).table }
+        ensures { state S.cells self.new ≡ fresh (state S.cells self.old).table }
     {
         self.store.clear();
         self.flags.clear();
@@ -45,7 +45,7 @@ impl<S: CellStore> Processor<S> {
     /// statements it has.
     pub fn load_table(&mut self, table: Table) -> usize
         ensures count { result ≡ length (rows_of table).statements }
-        ensures after { state cells self.new ≡ fresh (rows_of table) }
+        ensures after { state S.cells self.new ≡ fresh (rows_of table) }
     {
         self.table = table;
         self.clear();
@@ -55,7 +55,7 @@ impl<S: CellStore> Processor<S> {
     /// Loads a document and answers how many statements it has: the table is replaced, and all else is as after a restart. A
     /// refused document changes nothing.
     pub fn load(&mut self, document: &[u8]) -> Result<usize, Refusal>
-        ensures { Loads document.now (state cells self.old) (answered result) (state cells self.new) }
+        ensures { Loads document.now (state S.cells self.old) (answered result) (state S.cells self.new) }
     {
         let table = read_document(document)?;
         Ok(self.load_table(table))
@@ -64,15 +64,15 @@ impl<S: CellStore> Processor<S> {
     /// Writes the table out as a document, in its present order and with its present marks, and answers its length. A buffer that
     /// is too short is left as it was. Loading the bytes written gives the table back as it stands.
     pub fn write_out(&self, buffer: &mut [u8]) -> Result<usize, Refusal>
-        ensures written { WrittenInto (table_bytes (state cells self.now).table) buffer.old buffer.new result }
-        ensures read_back { IfOk result (λ n. reading (take n buffer.new) ≡ Ok (state cells self.now).table) }
+        ensures written { WrittenInto (table_bytes (state S.cells self.now).table) buffer.old buffer.new result }
+        ensures read_back { IfOk result (λ n. reading (take n buffer.new) ≡ Ok (state S.cells self.now).table) }
     {
         write_table(&self.table, buffer)
     }
 
     /// Writes the order of the statements out, a byte a name, on the same terms.
     pub fn order(&self, buffer: &mut [u8]) -> Result<usize, Refusal>
-        ensures { WrittenInto (order_bytes (state cells self.now).table) buffer.old buffer.new result }
+        ensures { WrittenInto (order_bytes (state S.cells self.now).table) buffer.old buffer.new result }
     {
         write_order(&self.table, buffer)
     }

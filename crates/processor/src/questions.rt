@@ -27,7 +27,7 @@ use touching::touch::touches;
 impl<S: CellStore> Processor<S> {
     /// The cells.
     pub fn store(&self) -> &S
-        ensures { cells result.now ≡ cells_of (state cells self.now) }
+        ensures { S.cells result.now ≡ cells_of (state S.cells self.now) }
     {
         &self.store
     }
@@ -35,7 +35,7 @@ impl<S: CellStore> Processor<S> {
     /// All flags, eight to a byte: flag f is bit (f - 1) mod 8 of byte (f - 1) div 8.
     pub fn flags(&self) -> [u8; FLAG_BYTES]
         ensures size { length result ≡ flag_bytes }
-        ensures bits { (i : ℕ) → i < last_flag → packed_cell result i ≡ slice_index_or (flags_of (state cells self.now)) i false }
+        ensures bits { (i : ℕ) → i < last_flag → packed_cell result i ≡ slice_index_or (flags_of (state S.cells self.now)) i false }
     {
         self.flags.bytes()
     }
@@ -56,15 +56,15 @@ impl<S: CellStore> Processor<S> {
 
     /// How many statements the table has.
     pub fn statement_count(&self) -> usize
-        ensures { result ≡ length (state cells self.now).table.statements }
+        ensures { result ≡ length (state S.cells self.now).table.statements }
     {
         self.table.statements().len()
     }
 
     /// The statement of a name, with its mark.
     pub fn statement(&self, name: Name) -> Option<&Statement>
-        ensures named { MatchOption result (has_name name.0 (state cells self.now).table.statements ≡ false)
-            (λ s. Named (state cells self.now).table.statements name.0 (statement_row s.now)) }
+        ensures named { MatchOption result (has_name name.0 (state S.cells self.now).table.statements ≡ false)
+            (λ s. Named (state S.cells self.now).table.statements name.0 (statement_row s.now)) }
         ensures keeps { IfSome result (λ s. statement_keeps (statement_row s.now) ≡ true) }
     {
         let statements = self.table.statements();
@@ -76,7 +76,7 @@ impl<S: CellStore> Processor<S> {
 
     /// The mark of the statement of a name.
     pub fn mark(&self, name: Name) -> Result<Mark, Refusal>
-        ensures { AskedOf (state cells self.now).table.statements name.0 (λ s mark. mark ≡ s.mark) result }
+        ensures { AskedOf (state S.cells self.now).table.statements name.0 (λ s mark. mark ≡ s.mark) result }
     {
         match self.statement(name) {
             Some(statement) => Ok(statement.mark),
@@ -86,7 +86,7 @@ impl<S: CellStore> Processor<S> {
 
     /// The wait record of the statement of a name.
     pub fn wait(&self, name: Name) -> Result<Wait, Refusal>
-        ensures { AskedOf (state cells self.now).table.statements name.0 (λ s wait. wait_in wait ≡ wait_of s.name (waits_of (state cells self.now))) result }
+        ensures { AskedOf (state S.cells self.now).table.statements name.0 (λ s wait. wait_in wait ≡ wait_of s.name (waits_of (state S.cells self.now))) result }
     {
         match self.statement(name) {
             Some(statement) => Ok(self.waits.wait(statement.name)),
@@ -96,7 +96,7 @@ impl<S: CellStore> Processor<S> {
 
     /// Whether the statements of two names touch.
     pub fn touch(&self, a: Name, b: Name) -> Result<bool, Refusal>
-        ensures { TouchAsked (state cells self.now).table.statements a.0 b.0 result }
+        ensures { TouchAsked (state S.cells self.now).table.statements a.0 b.0 result }
     {
         match (self.statement(a), self.statement(b)) {
             (Some(first), Some(second)) => Ok(touches(first, second)),
@@ -106,7 +106,7 @@ impl<S: CellStore> Processor<S> {
 
     /// Seconds and tenths until the next action of a statement is due on the branch that it holds, or none where nothing waits.
     pub fn time_left(&self, name: Name) -> Result<Option<(u16, u16)>, Refusal>
-        ensures { AskedOf (state cells self.now).table.statements name.0 (StatementTimeLeft (state cells self.now)) result }
+        ensures { AskedOf (state S.cells self.now).table.statements name.0 (StatementTimeLeft (state S.cells self.now)) result }
     {
         match self.statement(name) {
             Some(statement) => Ok(left_of(statement, self.waits.wait(statement.name))),

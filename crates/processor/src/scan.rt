@@ -21,7 +21,7 @@ impl<S: CellStore> Processor<S> {
     // The store takes the cells of a frame.
     fn take_cells(&mut self, frame: &[u8])
         requires { length frame.now ≡ frame_bytes }
-        ensures { state cells self.new ≡ remembers (state cells self.old) (frame_taken frame.now (state cells self.old).memory) }
+        ensures { state S.cells self.new ≡ remembers (state S.cells self.old) (frame_taken frame.now (state S.cells self.old).memory) }
     {
         let (cell_bytes, _) = frame.split_at(CELL_BYTES);
         self.store.take(cell_bytes);
@@ -29,8 +29,8 @@ impl<S: CellStore> Processor<S> {
 
     // Every statement in its turn, from the top.
     fn run(&mut self, frame: &[u8], enabled: &EnabledNames)
-        requires { (length frame.now ≡ frame_bytes) × (EnabledBy (state cells self.old).table frame.now enabled.now) }
-        ensures { state cells self.new ≡ remembers (state cells self.old) (turns (state cells self.old).table frame.now (state cells self.old).table.statements (state cells self.old).memory) }
+        requires { (length frame.now ≡ frame_bytes) × (EnabledBy (state S.cells self.old).table frame.now enabled.now) }
+        ensures { state S.cells self.new ≡ remembers (state S.cells self.old) (turns (state S.cells self.old).table frame.now (state S.cells self.old).table.statements (state S.cells self.old).memory) }
     {
         run_all(
             self.table.statements(),
@@ -45,8 +45,8 @@ impl<S: CellStore> Processor<S> {
     // One scan with a frame of the right length.
     fn scan_frame(&mut self, frame: &[u8]) -> usize
         requires { length frame.now ≡ frame_bytes }
-        ensures count { result ≡ enabled_count (state cells self.old).table.plans (setting frame.now) (state cells self.old).table.statements }
-        ensures after { state cells self.new ≡ remembers (state cells self.old) (scanned (state cells self.old).table frame.now (state cells self.old).memory) }
+        ensures count { result ≡ enabled_count (state S.cells self.old).table.plans (setting frame.now) (state S.cells self.old).table.statements }
+        ensures after { state S.cells self.new ≡ remembers (state S.cells self.old) (scanned (state S.cells self.old).table frame.now (state S.cells self.old).memory) }
     {
         let enabled = enabled_names(&self.table, frame);
         self.take_cells(frame);
@@ -57,7 +57,7 @@ impl<S: CellStore> Processor<S> {
     /// Scans one frame: the store takes its cells, every enabled statement runs in table order, and the answer is how many were
     /// enabled. Bytes that are no frame are refused and change nothing.
     pub fn scan(&mut self, frame: &[u8]) -> Result<usize, Refusal>
-        ensures { Rule (scan-call frame.now) (state cells self.old) (answered result) (state cells self.new) }
+        ensures { Rule (scan-call frame.now) (state S.cells self.old) (answered result) (state S.cells self.new) }
     {
         if frame.len() != FRAME_BYTES {
             return Err(Refusal::NotAFrame);

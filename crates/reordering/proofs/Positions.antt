@@ -1,5 +1,5 @@
 -- The first place of a number among those of a list.
-use Rattle.std.proofs.Common.{◌≡◌, ℕ, zero, suc, ◌+◌, ◌<◌, ◌≤◌, Bool, true, false, ◌||◌, eqb, ◌⊎◌, List, [], ◌∷◌, ◌++◌, map, length, get_or, take, Some, None, Decides, Option, sym, refl, ap, ◌∙◌, subst, inl, inr, ⊎_elim, arith}
+use Rattle.std.proofs.Common.{◌≡◌, ℕ, zero, suc, ◌+◌, ◌<◌, ◌≤◌, false, eqb, List, [], ◌∷◌, map, length, get_or, take, Some, None, Decides, Option, sym, refl, ap, ◌∙◌, subst, inl, inr, ⊎_elim, arith}
 use Rattle.std.proofs.lemmas.List.{length-map, map_more, get_or-map, take-map, take_all}
 use Rattle.std.proofs.lemmas.Bool.{cases_Bool, or_left, or_right, or_cases, eqb-true, eq-eqb, true≢false}
 use Rattle.tables.specs.declared.statement.Statement.{Statement}
@@ -7,7 +7,7 @@ use Rattle.tables.specs.Lists.{Among}
 use Rattle.tables.specs.Rows.{statement_row}
 use Rattle.rules.specs.Calls.{has_name}
 use Rattle.rules.proofs.Lists.{among_either}
-use Rattle.reordering.specs.Places.{FirstAt, Position, StandsAt, Found}
+use Rattle.reordering.specs.Places.{FirstAt, Position, Found}
 
 -- ---- a search from the front
 

@@ -1,10 +1,9 @@
 -- The examples.
-use Rattle.std.proofs.Common.{◌≡◌, ℕ, ◌<◌, ◌≤◌, true, false, List, [], ◌∷◌, Some, sym, refl, ap, subst, inl, inr, arith}
+use Rattle.std.proofs.Common.{◌≡◌, ◌≤◌, [], ◌∷◌, Some, sym, refl, ap, subst, inl, inr, arith}
 use Rattle.tables.specs.declared.place.State.TheVariants.{On, Off}
 use Rattle.tables.specs.declared.place.Place.TheVariants.{Flag}
 use Rattle.tables.specs.Lists.{Among}
 use Rattle.tables.specs.Lines.{test_of, action_of}
-use Rattle.tables.specs.Rows.{StatementRow}
 use Rattle.tables.specs.Rules.{table_keeps}
 use Rattle.cells.specs.Bits.{bit}
 use Rattle.cells.specs.Cells.{cleared}

@@ -1,5 +1,5 @@
 -- Which neighbours may be exchanged.
-use Rattle.std.proofs.Common.{◌≡◌, ℕ, ◌<◌, ◌≤◌, true, false, not, ◌&&◌, ◌||◌, ◌⊎◌, ◌↔◌, List, [], ◌∷◌, ◌++◌, Ok, Err, sym, refl, ap, ◌∙◌, subst, subst₂, inl, inr, arith, ne_eqb}
+use Rattle.std.proofs.Common.{◌≡◌, ℕ, true, false, not, ◌&&◌, ◌||◌, ◌↔◌, List, [], ◌∷◌, ◌++◌, Ok, Err, sym, refl, ap, ◌∙◌, subst, subst₂, inl, inr, arith, ne_eqb}
 use Rattle.tables.specs.declared.refusal.Refusal.TheVariants.{TouchingPair}
 use Rattle.tables.specs.Lists.{Among, distinct}
 use Rattle.tables.specs.Refusals.{told}
@@ -7,12 +7,11 @@ use Rattle.tables.specs.Rows.{StatementRow, PlanRow, TableRows, row_name}
 use Rattle.tables.specs.Rules.{table_keeps}
 use Rattle.rules.specs.Touching.{Touch}
 use Rattle.rules.specs.Rearranging.{Before, Rearrangement}
-use Rattle.rules.specs.Reordering.{Answer, names, EachOnce, Inverts, LeastInverted, Accepts, Reordered, IsNotTheNames, PairInverted, Reorders, ReordersAsAccepted}
+use Rattle.rules.specs.Reordering.{Answer, EachOnce, Inverts, LeastInverted, Accepts, Reordered, Reorders, ReordersAsAccepted}
 use Rattle.rules.specs.Exchanging.{table_of, OnlyUntouchingNeighboursExchange}
 use Rattle.rules.proofs.Lists.{among_map}
-use Rattle.rules.proofs.Orders.{OwnKeys, first, second, one_first, one_way, unlike, key_once, before_map}
-use Rattle.rules.proofs.Moves.{Shuffle}
-use Rattle.rules.proofs.Names.{WellNamed, well_named, not_among}
+use Rattle.rules.proofs.Orders.{OwnKeys, first, second, one_first, unlike, key_once, before_map}
+use Rattle.rules.proofs.Names.{well_named}
 use Rattle.rules.proofs.Related.{TablesAlike}
 use Rattle.rules.proofs.Reorders.{reordered_names, reorders_alike, same_order}
 

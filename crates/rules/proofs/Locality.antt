@@ -1,6 +1,6 @@
 -- What a statement's tests read, what its branches write, and which record it steps. The proofs above rest on these alone:
 -- there the definitions of a test's truth, of joining, of the wait step and of what is due stay shut.
-use Rattle.std.proofs.Common.{◌≡◌, ℕ, ◌+◌, ◌-◌, ◌≤◌, Bool, true, false, cond, leb, ◌≢◌, ◌⊎◌, List, [], ◌∷◌, ◌++◌, map, sym, refl, ap, ◌∙◌, subst, ap₂, inl, inr, arith, get_or-set_other}
+use Rattle.std.proofs.Common.{◌≡◌, ℕ, ◌+◌, ◌-◌, Bool, true, false, cond, leb, List, [], ◌∷◌, sym, refl, ap, ◌∙◌, subst, ap₂, inl, inr, arith, get_or-set_other}
 use Rattle.tables.specs.declared.place.Place.{Place}
 use Rattle.tables.specs.declared.number.Number.{Number}
 use Rattle.tables.specs.declared.test.Test.{Test}
@@ -10,10 +10,10 @@ use Rattle.tables.specs.declared.action.Action.{Action}
 use Rattle.tables.specs.declared.action.Action.TheVariants.{SetPlace, SetMember, Delay}
 use Rattle.tables.specs.Families.{cells_named}
 use Rattle.tables.specs.Lists.{Among}
-use Rattle.tables.specs.Rows.{StatementRow, PlanRow, TableRows}
+use Rattle.tables.specs.Rows.{StatementRow, TableRows}
 use Rattle.rules.specs.declared.branch.Branch.{Branch}
 use Rattle.rules.specs.declared.branch.Branch.TheVariants.{Neither, Then, Else}
-use Rattle.rules.specs.Frames.{Setting, setting}
+use Rattle.rules.specs.Frames.{setting}
 use Rattle.rules.specs.Memory.{Places, Wait, no_wait}
 use Rattle.rules.specs.Enabling.{enabled}
 use Rattle.rules.specs.Testing.{View, view, in_state, compares, compared_as, truth, joined, joined_below, holds}

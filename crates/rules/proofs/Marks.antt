@@ -1,5 +1,5 @@
 -- A change of marks keeps a rearrangement.
-use Rattle.std.proofs.Common.{◌≡◌, ℕ, ◌≤◌, List, [], ◌∷◌, map, sym, refl, ap, ◌∙◌, subst, subst₂}
+use Rattle.std.proofs.Common.{◌≡◌, ℕ, ◌≤◌, List, [], ◌∷◌, map, sym, refl, ap, subst, subst₂}
 use Rattle.tables.specs.declared.statement.Mark.{Mark}
 use Rattle.tables.specs.Lists.{Among}
 use Rattle.tables.specs.Rows.{StatementRow, row_name}

@@ -1,10 +1,10 @@
 -- What the rules of a table say of the names of its statements.
-use Rattle.std.proofs.Common.{◌≡◌, ℕ, ◌≤◌, Bool, true, false, not, ◌&&◌, ◌||◌, eqb, leb, List, [], ◌∷◌, map, length, sym, refl, ap, ◌∙◌, inl, inr, arith}
-use Rattle.std.proofs.lemmas.Bool.{and_parts, or_parts, not-true, eq-eqb, eqb-false}
+use Rattle.std.proofs.Common.{◌≡◌, ℕ, ◌≤◌, Bool, true, false, not, eqb, leb, List, [], ◌∷◌, map, length, sym, ap, ◌∙◌, inl, inr}
+use Rattle.std.proofs.lemmas.Bool.{and_parts, or_parts, not-true, eqb-false}
 use Rattle.tables.specs.Limits.{last_name, counted_to}
-use Rattle.tables.specs.Lists.{Among, every, member, distinct, rising}
-use Rattle.tables.specs.Rows.{StatementRow, TableRows, row_name, row_number}
-use Rattle.tables.specs.Rules.{statement_keeps, plan_keeps, table_keeps}
+use Rattle.tables.specs.Lists.{Among, every, member, distinct}
+use Rattle.tables.specs.Rows.{StatementRow, TableRows, row_name}
+use Rattle.tables.specs.Rules.{statement_keeps, table_keeps}
 use Rattle.documents.proofs.Pigeonhole.{counted_bounds}
 use Rattle.rules.proofs.Orders.{OwnKeys}
 

@@ -1,5 +1,5 @@
 -- Scans of one table from two memories that differ only in cells that no statement tests.
-use Rattle.std.proofs.Common.{◌≡◌, ℕ, zero, suc, Bool, false, ◌≢◌, ◌⊎◌, List, [], ◌∷◌, length, get_or, set, Some, None, Option, sym, refl, ap, ◌∙◌, subst, ap₂, subst₂, inl, inr, arith, length-set, get_or-set_other}
+use Rattle.std.proofs.Common.{◌≡◌, ℕ, zero, suc, Bool, false, ◌≢◌, List, [], ◌∷◌, length, get_or, set, Some, None, Option, sym, refl, ap, ◌∙◌, subst, subst₂, inl, inr, arith, length-set, get_or-set_other}
 use native.Mathlib.Decide.{ℕ_discrete}
 use Rattle.tables.specs.declared.place.Place.{Place}
 use Rattle.tables.specs.declared.number.Number.{Number}

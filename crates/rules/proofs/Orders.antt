@@ -1,5 +1,5 @@
 -- Which of two stands first, in lists whose statements have each a name of its own.
-use Rattle.std.proofs.Common.{◌≡◌, ◌⊎◌, List, [], ◌∷◌, ◌++◌, map, sym, refl, ap, ◌∙◌, subst, subst₂, inl, inr}
+use Rattle.std.proofs.Common.{◌≡◌, ◌⊎◌, List, [], ◌∷◌, map, sym, refl, ap, ◌∙◌, subst, subst₂, inl, inr}
 use Rattle.tables.specs.Lists.{Among}
 use Rattle.rules.specs.Rearranging.{Before}
 use Rattle.rules.proofs.Lists.{among_map, among_unmap}

@@ -1,7 +1,6 @@
 -- The definitions in plain words: joins, waits, time left, touching.
-use Rattle.std.proofs.Common.{◌≡◌, ℕ, ◌+◌, ◌*◌, ◌<◌, ◌≤◌, Bool, false, ◌⊎◌, List, [], ◌∷◌, ◌++◌, Some, None, Option, sym, refl, ap, ◌∙◌, subst, inl, inr, add-zero, add_assoc, zero-add, arith}
+use Rattle.std.proofs.Common.{◌≡◌, ℕ, ◌+◌, ◌*◌, ◌<◌, ◌≤◌, Bool, false, List, [], ◌∷◌, ◌++◌, Some, None, sym, refl, ap, ◌∙◌, subst, inl, inr, add-zero, add_assoc, arith}
 use Rattle.tables.specs.declared.test.Join.{Join}
-use Rattle.tables.specs.declared.test.Join.TheVariants.{First}
 use Rattle.tables.specs.declared.test.JoinedTest.{JoinedTest}
 use Rattle.tables.specs.declared.action.Action.{Action}
 use Rattle.tables.specs.declared.action.Action.TheVariants.{SetPlace, SetMember, Delay}
@@ -10,7 +9,7 @@ use Rattle.tables.specs.Lists.{Among}
 use Rattle.tables.specs.Rules.{delays}
 use Rattle.cells.specs.Cells.{is_on}
 use Rattle.rules.specs.Testing.{View, truth, joined, joined_below, holds, JoinedFromTheTop}
-use Rattle.rules.specs.Acting.{Timed, timed, NextWait, TimeLeft, TimeLeftIsOne, WaitsAreSumsOfDelays}
+use Rattle.rules.specs.Acting.{Timed, timed, NextWait, TimeLeftIsOne, WaitsAreSumsOfDelays}
 use Rattle.rules.specs.Touching.{TouchingInPlainWords}
 use Rattle.rules.proofs.Swap.{touch_back}
 

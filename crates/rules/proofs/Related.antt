@@ -1,5 +1,5 @@
 -- What two runs keep between calls.
-use Rattle.std.proofs.Common.{◌≡◌, ℕ, ◌≤◌, true, List, [], None, Option, sym, refl, subst, inr}
+use Rattle.std.proofs.Common.{◌≡◌, ℕ, true, List, None, Option, sym, refl, subst, inr}
 use Rattle.tables.specs.declared.place.Place.{Place}
 use Rattle.tables.specs.declared.number.Number.{Number}
 use Rattle.tables.specs.declared.test.JoinedTest.{JoinedTest}

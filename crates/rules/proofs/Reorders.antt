@@ -1,13 +1,12 @@
 -- A table and its rearrangement answer a reorder alike, and are alike after it.
-use Rattle.std.proofs.Common.{◌≡◌, ℕ, ◌<◌, ◌≤◌, true, ◌⊎◌, ◌↔◌, List, [], ◌∷◌, map, Err, sym, refl, ap, ◌∙◌, subst, ap₂, subst₂, inl, inr, arith}
+use Rattle.std.proofs.Common.{◌≡◌, ℕ, ◌<◌, ◌≤◌, true, ◌⊎◌, ◌↔◌, List, [], ◌∷◌, Err, sym, refl, ap, ◌∙◌, subst, ap₂, subst₂, inl, inr, arith}
 use Rattle.tables.specs.declared.refusal.Refusal.TheVariants.{TouchingPair}
 use Rattle.tables.specs.Lists.{Among, distinct}
 use Rattle.tables.specs.Refusals.{told}
 use Rattle.tables.specs.Rows.{StatementRow, TableRows, row_name}
-use Rattle.rules.specs.Rearranging.{Before}
 use Rattle.rules.specs.Reordering.{Answer, names, EachOnce, Inverts, LeastInverted, Reordered, Reorders}
 use Rattle.rules.proofs.Lists.{among_map, among_unmap}
-use Rattle.rules.proofs.Orders.{OwnKeys, first, second, one_first, one_way, unlike, key_once, before_map}
+use Rattle.rules.proofs.Orders.{OwnKeys, first, second, one_first, one_way, unlike, key_once}
 use Rattle.rules.proofs.Swap.{touch_back}
 use Rattle.rules.proofs.Moves.{Shuffle}
 use Rattle.rules.proofs.Names.{own_names}

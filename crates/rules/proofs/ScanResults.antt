@@ -1,19 +1,17 @@
 -- What a scan leaves in the wait records.
-use Rattle.std.proofs.Common.{◌≡◌, ℕ, ◌-◌, ◌<◌, ◌≤◌, true, false, ◌≢◌, List, [], ◌∷◌, ◌++◌, length, sym, refl, ap, ◌∙◌, subst, inl, inr, arith, length-set, get_or-set_same}
+use Rattle.std.proofs.Common.{◌≡◌, ℕ, ◌-◌, ◌<◌, ◌≤◌, true, ◌≢◌, List, [], ◌∷◌, ◌++◌, length, sym, refl, ap, ◌∙◌, subst, inl, inr, arith, length-set, get_or-set_same}
 use Rattle.tables.specs.Limits.{last_name}
 use Rattle.tables.specs.Lists.{Among}
 use Rattle.tables.specs.Rows.{StatementRow, TableRows, row_name}
 use Rattle.tables.specs.Rules.{table_keeps}
-use Rattle.rules.specs.Frames.{setting}
-use Rattle.rules.specs.Memory.{Wait, no_wait, wait_of, Memory}
-use Rattle.rules.specs.Enabling.{enabled}
-use Rattle.rules.specs.Scanning.{stepped, branch_now, wait_now, acted, turn, turns, frame_taken, scanned}
+use Rattle.rules.specs.Memory.{no_wait, wait_of, Memory}
+use Rattle.rules.specs.Scanning.{stepped, branch_now, wait_now, turn, turns, frame_taken, scanned}
 use Rattle.rules.specs.ScanResults.{RecordsFollowTheBranchesTaken}
 use Rattle.rules.proofs.Lists.{among_left, among_right}
 use Rattle.rules.proofs.Locality.{records_step_alone, disabled_takes_neither, stepped_to_neither}
-use Rattle.rules.proofs.Orders.{OwnKeys, key_once}
+use Rattle.rules.proofs.Orders.{OwnKeys}
 use Rattle.rules.proofs.Moves.{split, here, wider, own}
-use Rattle.rules.proofs.Names.{WellNamed, well_named}
+use Rattle.rules.proofs.Names.{well_named}
 
 module _ (t : TableRows) (f : List ℕ) where
   turns_join : (above below : List StatementRow) (m : Memory) → turns t f (above ++ below) m ≡ turns t f below (turns t f above m)

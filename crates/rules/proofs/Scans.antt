@@ -2,7 +2,6 @@
 use Rattle.std.proofs.Common.{◌≡◌, ℕ, ◌+◌, Bool, true, false, cond, ◌&&◌, eqb, List, [], ◌∷◌, length, get_or, take, Some, None, Ok, Err, Option, sym, refl, ap, ◌∙◌, subst, ap₂, inl, true≢false}
 use mathlib.Core.Bool.{false≢true}
 use Rattle.std.proofs.lemmas.Bool.{eqb-true}
-use Rattle.tables.specs.declared.place.Buffer.{Buffer}
 use Rattle.tables.specs.declared.place.Buffer.TheVariants.{Input, Output}
 use Rattle.tables.specs.declared.place.Place.{Place}
 use Rattle.tables.specs.declared.place.Place.TheVariants.{InputCell, OutputCell, Flag}
@@ -15,7 +14,7 @@ use Rattle.cells.specs.Tables.{length_tabulated}
 use Rattle.rules.specs.Frames.{frame_bytes, is_frame, cells_shown, setting}
 use Rattle.rules.specs.Memory.{Places, in_flags, nowhere, cell_location, on_at, place_on, Memory}
 use Rattle.rules.specs.Enabling.{enabled, enabled_count, name_enabled}
-use Rattle.rules.specs.Scanning.{turns, frame_taken, scanned}
+use Rattle.rules.specs.Scanning.{frame_taken, scanned}
 use Rattle.rules.specs.Reordering.{Answer}
 use Rattle.rules.specs.Calls.{ProcessorState, scan_answer, after_scan}
 use Rattle.rules.specs.Runs.{Tested, LookAlike, FramesAlike}

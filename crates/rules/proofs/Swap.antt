@@ -4,12 +4,11 @@ use lib.Seq.{set_comm}
 use Rattle.tables.specs.declared.place.Place.{Place}
 use Rattle.tables.specs.Rows.{StatementRow, TableRows}
 use Rattle.rules.specs.declared.branch.Branch.{Branch}
-use Rattle.rules.specs.Memory.{Places, place_on, Wait, wait_of, Memory}
+use Rattle.rules.specs.Memory.{Places, place_on, Wait, Memory}
 use Rattle.rules.specs.Testing.{view}
 use Rattle.rules.specs.Acting.{written_at, after_writes}
 use Rattle.rules.specs.Scanning.{actions, branch_now, wait_now, acted, turn}
 use Rattle.rules.specs.Touching.{Sets, Tests, Touch}
-use Rattle.rules.specs.Locality.{SameView}
 use Rattle.rules.proofs.Places.{Writes, place_unwritten, writes_commute}
 use Rattle.rules.proofs.Locality.{tests_read_only_what_they_name, branches_write_only_what_they_set, records_step_alone}
 

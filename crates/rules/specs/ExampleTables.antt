@@ -1,21 +1,18 @@
 -- Small tables and frames, for examples that are settled by evaluation.
-use Rattle.std.specs.Prelude.{ℕ, ◌+◌, Bool, true, false, cond, List, [], ◌∷◌, ◌++◌, replicate}
+use Rattle.std.specs.Prelude.{ℕ, ◌+◌, Bool, cond, List, [], ◌∷◌, ◌++◌, replicate}
 use Rattle.tables.specs.declared.place.State.{State}
 use Rattle.tables.specs.declared.place.State.TheVariants.{Off, On}
-use Rattle.tables.specs.declared.place.Place.{Place}
 use Rattle.tables.specs.declared.place.Place.TheVariants.{InputCell, OutputCell, Flag}
-use Rattle.tables.specs.declared.family.Family.TheVariants.{PhaseGreen}
 use Rattle.tables.specs.declared.number.Ring.TheVariants.{One}
 use Rattle.tables.specs.declared.number.Timer.TheVariants.{MinGreen}
 use Rattle.tables.specs.declared.number.Number.TheVariants.{RingTimer}
 use Rattle.tables.specs.declared.number.Entry.TheVariants.{Timed}
-use Rattle.tables.specs.declared.statement.Mark.{Mark}
 use Rattle.tables.specs.declared.statement.Mark.TheVariants.{Enabled, Disabled}
 use Rattle.tables.specs.declared.test.Join.TheVariants.{First, And, Or}
 use Rattle.tables.specs.declared.test.Comparison.{Comparison}
 use Rattle.tables.specs.declared.test.Comparison.TheVariants.{Is}
 use Rattle.tables.specs.declared.test.Test.{Test}
-use Rattle.tables.specs.declared.test.Test.TheVariants.{PlaceIs, MemberIs, NumberIs}
+use Rattle.tables.specs.declared.test.Test.TheVariants.{PlaceIs, NumberIs}
 use Rattle.tables.specs.declared.test.JoinedTest.{JoinedTest}
 use Rattle.tables.specs.declared.action.Action.{Action}
 use Rattle.tables.specs.declared.action.Action.TheVariants.{SetPlace, Delay}

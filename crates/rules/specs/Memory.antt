@@ -1,5 +1,5 @@
 -- What a processor remembers beside its table: cells, flags and wait records.
-use Rattle.std.specs.Prelude.{ℕ, ◌-◌, Bool, true, false, cond, List, set, replicate, Some, None, Option, slice_index_or, slice_set}
+use Rattle.std.specs.Prelude.{ℕ, ◌-◌, Bool, false, cond, List, replicate, Some, None, Option, slice_index_or, slice_set}
 use Rattle.tables.specs.declared.place.Buffer.TheVariants.{Input, Output}
 use Rattle.tables.specs.declared.place.Place.{Place}
 use Rattle.tables.specs.declared.place.Place.TheVariants.{InputCell, OutputCell, Flag}

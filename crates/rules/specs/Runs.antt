@@ -1,5 +1,5 @@
 -- Runs of a processor, and lists of calls that are alike to a table.
-use Rattle.std.specs.Prelude.{◌≡◌, ℕ, Bool, cond, ◌⊎◌, List, [], ◌∷◌, map, length, Some, Option}
+use Rattle.std.specs.Prelude.{◌≡◌, ℕ, cond, ◌⊎◌, List, [], ◌∷◌, map, length, Some, Option}
 use Rattle.tables.specs.declared.place.Buffer.{Buffer}
 use Rattle.tables.specs.declared.place.Place.{Place}
 use Rattle.tables.specs.declared.number.Number.{Number}

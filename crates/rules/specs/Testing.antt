@@ -1,5 +1,5 @@
 -- When a statement's tests hold.
-use Rattle.std.specs.Prelude.{◌≡◌, ℕ, ◌*◌, Bool, true, false, not, ◌&&◌, ◌||◌, List, [], ◌∷◌, ◌++◌, ◌==◌, nat_lt}
+use Rattle.std.specs.Prelude.{◌≡◌, ℕ, ◌*◌, Bool, false, not, ◌&&◌, ◌||◌, List, [], ◌∷◌, ◌++◌, ◌==◌, nat_lt}
 use Rattle.tables.specs.declared.place.State.{State}
 use Rattle.tables.specs.declared.place.State.TheVariants.{Off, On}
 use Rattle.tables.specs.declared.place.Place.{Place}

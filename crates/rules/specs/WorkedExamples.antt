@@ -1,19 +1,17 @@
 -- Examples of documents, scans, tests, waits and orders, settled by evaluation of the rules.
-use Rattle.std.specs.Prelude.{◌≡◌, ℕ, ◌+◌, Bool, true, false, List, [], ◌∷◌, replicate, Some, Err}
+use Rattle.std.specs.Prelude.{◌≡◌, ℕ, ◌+◌, true, false, List, [], ◌∷◌, replicate, Some, Err}
 use Rattle.tables.specs.declared.place.State.TheVariants.{Off}
-use Rattle.tables.specs.declared.place.Place.TheVariants.{OutputCell}
 use Rattle.tables.specs.declared.family.Family.TheVariants.{PhaseGreen}
 use Rattle.tables.specs.declared.test.Comparison.TheVariants.{Is, Greater}
 use Rattle.tables.specs.declared.test.Test.TheVariants.{MemberIs}
 use Rattle.tables.specs.declared.refusal.Refusal.TheVariants.{TouchingPair}
 use Rattle.tables.specs.Limits.{input_cells, last_flag}
 use Rattle.tables.specs.Refusals.{Told, told}
-use Rattle.tables.specs.Rows.{TableRows}
 use Rattle.cells.specs.Cells.{cleared}
 use Rattle.documents.specs.Examples.{its_table, DocumentsAreReadAsWritten}
 use Rattle.rules.specs.declared.branch.Branch.TheVariants.{Then, Else}
 use Rattle.rules.specs.Frames.{cells_shown}
-use Rattle.rules.specs.Memory.{Places, place_on}
+use Rattle.rules.specs.Memory.{Places}
 use Rattle.rules.specs.Testing.{view, truth, holds}
 use Rattle.rules.specs.Reordering.{Reorders}
 use Rattle.rules.specs.Calls.{fresh, StatementTimeLeft}

@@ -1,12 +1,12 @@
 -- Names that are enabled, one statement after another.
-use Rattle.std.proofs.Common.{◌≡◌, ℕ, zero, suc, ◌+◌, ◌<◌, ◌≤◌, Bool, true, false, cond, ◌&&◌, ◌||◌, eqb, leb, List, [], ◌∷◌, map, length, get_or, drop, sym, refl, ap, ◌∙◌, inl, inr, arith}
+use Rattle.std.proofs.Common.{◌≡◌, ℕ, zero, suc, ◌+◌, ◌<◌, ◌≤◌, Bool, true, false, cond, ◌&&◌, ◌||◌, eqb, List, [], ◌∷◌, map, length, get_or, drop, sym, refl, ap, ◌∙◌, inl, inr, arith}
 use Rattle.std.proofs.lemmas.List.{at_drop_more}
 use Rattle.std.proofs.lemmas.Bool.{and_parts, eq-eqb, ne_eqb}
 use Rattle.tables.specs.declared.statement.Statement.{Statement}
 use Rattle.tables.specs.Limits.{last_name, counted_to}
-use Rattle.tables.specs.Lists.{Among, every, some}
-use Rattle.tables.specs.Rows.{StatementRow, PlanRow, TableRows, statement_row, row_name}
-use Rattle.tables.specs.Rules.{statement_keeps, table_keeps}
+use Rattle.tables.specs.Lists.{Among, every}
+use Rattle.tables.specs.Rows.{StatementRow, PlanRow, statement_row, row_name}
+use Rattle.tables.specs.Rules.{statement_keeps}
 use Rattle.rules.specs.Frames.{Setting}
 use Rattle.rules.specs.Enabling.{enabled, enabled_count, name_enabled}
 use Rattle.rules.proofs.Orders.{OwnKeys, key_once}

@@ -1,5 +1,5 @@
 -- Waits along a branch.
-use Rattle.std.proofs.Common.{◌≡◌, ℕ, ◌+◌, ◌≤◌, List, [], ◌∷◌, refl, ap, inl, inr, add-zero, arith}
+use Rattle.std.proofs.Common.{ℕ, ◌+◌, ◌≤◌, List, [], ◌∷◌, ap, inl, inr, add-zero, arith}
 use Rattle.tables.specs.declared.place.State.TheVariants.{Off}
 use Rattle.tables.specs.declared.place.Place.TheVariants.{InputCell}
 use Rattle.tables.specs.declared.action.Action.{Action}

@@ -23,8 +23,8 @@ fn act_one<S: CellStore>(
     requires { wait.0 + delay action ≤ max_delay }
     ensures wait { result.0 ≡ wait.0 + delay action }
     ensures places { (more : List Action)
-        → after_writes (due count.0 (timed result.0 more)) (places_of (cells store.new) flags.new)
-        ≡ after_writes (due count.0 (timed wait.0 (action ∷ more))) (places_of (cells store.old) flags.old) }
+        → after_writes (due count.0 (timed result.0 more)) (places_of (S.cells store.new) flags.new)
+        ≡ after_writes (due count.0 (timed wait.0 (action ∷ more))) (places_of (S.cells store.old) flags.old) }
 {
     match action {
         Action::SetPlace(place, state) => {
@@ -51,8 +51,8 @@ pub(crate) fn act<S: CellStore>(
     flags: &mut FlagTable,
 )
     requires { delays actions.now ≤ max_delay }
-    ensures { places_of (cells store.new) flags.new
-        ≡ after_writes (written_at count.0 actions.now) (places_of (cells store.old) flags.old) }
+    ensures { places_of (S.cells store.new) flags.new
+        ≡ after_writes (written_at count.0 actions.now) (places_of (S.cells store.old) flags.old) }
 {
     let mut wait = Tenths(0);
     for action in actions {

@@ -15,7 +15,7 @@ use tables::span::CellSpan;
 
 // Whether a place is ON.
 pub(crate) fn is_place_on<S: CellStore>(store: &S, flags: &FlagTable, place: Place) -> bool
-    ensures { result ≡ place_on (places_of (cells store.now) flags.now) place }
+    ensures { result ≡ place_on (places_of (S.cells store.now) flags.now) place }
 {
     is_on(match place {
         Place::InputCell(code) => store.read(Buffer::Input, code),
@@ -31,7 +31,7 @@ pub(crate) fn set_place<S: CellStore>(
     place: Place,
     state: State,
 )
-    ensures { places_of (cells store.new) flags.new ≡ place_set place (is_on state) (places_of (cells store.old) flags.old) }
+    ensures { places_of (S.cells store.new) flags.new ≡ place_set place (is_on state) (places_of (S.cells store.old) flags.old) }
 {
     match place {
         Place::InputCell(code) => store.write(Buffer::Input, code, state),
@@ -43,7 +43,7 @@ pub(crate) fn set_place<S: CellStore>(
 // Whether one cell of a span is ON.
 fn is_cell_on<S: CellStore>(store: &S, flags: &FlagTable, span: CellSpan, k: u8) -> bool
     requires { k < span.count }
-    ensures { result ≡ place_on (places_of (cells store.now) flags.now) (span_cell span k) }
+    ensures { result ≡ place_on (places_of (S.cells store.now) flags.now) (span_cell span k) }
 {
     match span.cell(k) {
         Some(place) => is_place_on(store, flags, place),
@@ -53,7 +53,7 @@ fn is_cell_on<S: CellStore>(store: &S, flags: &FlagTable, span: CellSpan, k: u8)
 
 // Whether some cell of a span is ON.
 pub(crate) fn is_some_on<S: CellStore>(store: &S, flags: &FlagTable, span: CellSpan) -> bool
-    ensures { result ≡ some (place_on (places_of (cells store.now) flags.now)) (span_cells span) }
+    ensures { result ≡ some (place_on (places_of (S.cells store.now) flags.now)) (span_cells span) }
 {
     for k in 0..span.count() {
         if is_cell_on(store, flags, span, k) {
@@ -66,7 +66,7 @@ pub(crate) fn is_some_on<S: CellStore>(store: &S, flags: &FlagTable, span: CellS
 // Sets one cell of a span.
 fn set_cell<S: CellStore>(store: &mut S, flags: &mut FlagTable, span: CellSpan, k: u8, state: State)
     requires { k < span.count }
-    ensures { places_of (cells store.new) flags.new ≡ place_set (span_cell span k) (is_on state) (places_of (cells store.old) flags.old) }
+    ensures { places_of (S.cells store.new) flags.new ≡ place_set (span_cell span k) (is_on state) (places_of (S.cells store.old) flags.old) }
 {
     if let Some(place) = span.cell(k) {
         set_place(store, flags, place, state);
@@ -80,7 +80,7 @@ pub(crate) fn set_all<S: CellStore>(
     span: CellSpan,
     state: State,
 )
-    ensures { places_of (cells store.new) flags.new ≡ after_writes (writes (span_cells span) (is_on state)) (places_of (cells store.old) flags.old) }
+    ensures { places_of (S.cells store.new) flags.new ≡ after_writes (writes (span_cells span) (is_on state)) (places_of (S.cells store.old) flags.old) }
 {
     for k in 0..span.count() {
         set_cell(store, flags, span, k, state);

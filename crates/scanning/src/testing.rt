@@ -67,7 +67,7 @@ fn truth<S: CellStore>(
     flags: &FlagTable,
 ) -> bool
     requires { length frame.now ≡ frame_bytes }
-    ensures { result ≡ truth-of (seen frame.now (is_there enabled.now) (places_of (cells store.now) flags.now)) test }
+    ensures { result ≡ truth-of (seen frame.now (is_there enabled.now) (places_of (S.cells store.now) flags.now)) test }
 {
     match test {
         Test::PlaceIs(place, state) => is_in(state, is_place_on(store, flags, place)),
@@ -99,7 +99,7 @@ pub fn holds<S: CellStore>(
     flags: &FlagTable,
 ) -> bool
     requires { length frame.now ≡ frame_bytes }
-    ensures { result ≡ holds-in (seen frame.now (is_there enabled.now) (places_of (cells store.now) flags.now)) tests.now }
+    ensures { result ≡ holds-in (seen frame.now (is_there enabled.now) (places_of (S.cells store.now) flags.now)) tests.now }
 {
     let mut above = false;
     for t in tests {

@@ -31,7 +31,7 @@ fn branch_now<S: CellStore>(
 ) -> Branch
     requires { length frame.now ≡ frame_bytes }
     ensures { result ≡ branch_by (is_there enabled.now (statement_row statement.now).name)
-        (holds-in (seen frame.now (is_there enabled.now) (places_of (cells store.now) flags.now)) (statement_row statement.now).tests) }
+        (holds-in (seen frame.now (is_there enabled.now) (places_of (S.cells store.now) flags.now)) (statement_row statement.now).tests) }
 {
     if !enabled.contains(statement.name) {
         return Branch::Neither;
@@ -52,8 +52,8 @@ fn act_branch<S: CellStore>(
     flags: &mut FlagTable,
 )
     requires { statement_keeps (statement_row statement.now) ≡ true }
-    ensures { places_of (cells store.new) flags.new
-        ≡ after_writes (written_at count.0 (actions-of (statement_row statement.now) branch)) (places_of (cells store.old) flags.old) }
+    ensures { places_of (S.cells store.new) flags.new
+        ≡ after_writes (written_at count.0 (actions-of (statement_row statement.now) branch)) (places_of (S.cells store.old) flags.old) }
 {
     match branch {
         Branch::Neither => {}
@@ -73,8 +73,8 @@ fn run_statement<S: CellStore>(
 )
     requires { (length frame.now ≡ frame_bytes) × (statement_keeps (statement_row statement.now) ≡ true) }
     ensures { (t : TableRows) → NamesOf t frame.now enabled.now → OwnNameOf t frame.now enabled.now (statement_row statement.now)
-        → memory_of (cells store.new) flags.new waits.new
-        ≡ turn t frame.now (statement_row statement.now) (memory_of (cells store.old) flags.old waits.old) }
+        → memory_of (S.cells store.new) flags.new waits.new
+        ≡ turn t frame.now (statement_row statement.now) (memory_of (S.cells store.old) flags.old waits.old) }
 {
     let branch = branch_now(statement, frame, enabled, store, flags);
     let count = waits.step(statement.name, branch);
@@ -92,8 +92,8 @@ pub fn run_all<S: CellStore>(
 )
     requires { (length frame.now ≡ frame_bytes) × (every statement_keeps (map statement_row statements.now) ≡ true) }
     ensures { (t : TableRows) → t.statements ≡ map statement_row statements.now → EnabledBy t frame.now enabled.now
-        → memory_of (cells store.new) flags.new waits.new
-        ≡ turns t frame.now t.statements (memory_of (cells store.old) flags.old waits.old) }
+        → memory_of (S.cells store.new) flags.new waits.new
+        ≡ turns t frame.now t.statements (memory_of (S.cells store.old) flags.old waits.old) }
 {
     for statement in statements {
         run_statement(statement, frame, enabled, store, flags, waits);

@@ -1,5 +1,5 @@
 -- What the searches of this crate look for.
-use Rattle.std.proofs.Common.{◌≡◌, ◌⊎◌, List, sym, refl, subst, inl, inr, ⊎_elim}
+use Rattle.std.proofs.Common.{◌≡◌, List, sym, refl, subst, inl, inr, ⊎_elim}
 use Rattle.tables.specs.declared.place.Place.{Place}
 use Rattle.tables.specs.Lists.{Among}
 use Rattle.rules.specs.Touching.{named_by}

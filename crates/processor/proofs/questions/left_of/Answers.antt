@@ -14,20 +14,20 @@ on_branch : (s : StatementRow) (b : Branch) (count read : ℕ) (lines : List Act
     → TimeLeft lines read r → TimeLeft (actions s b) count r
 on_branch s b count read lines r e k h = subst₂ (λ acts n. TimeLeft acts n r) e k h
 
-pub time-left-requires : goal.time-left-requires
-time-left-requires c =
-    subst (λ acts. delays acts ≤ max_delay) (sym c.as-slice.ensures.value) (delays_kept (statement_row c.args.statement.now) c.requires).0
+pub time_left-requires : goal.time_left-requires
+time_left-requires c =
+    subst (λ acts. delays acts ≤ max_delay) (sym c.as_slice.ensures.value) (delays_kept (statement_row c.args.statement.now) c.requires).0
 
-pub time-left-requires-in-Else-wait : goal.time-left-requires-in-Else-wait
-time-left-requires-in-Else-wait c =
-    subst (λ acts. delays acts ≤ max_delay) (sym c.as-slice-in-Else-wait.ensures.value) (delays_kept (statement_row c.args.statement.now) c.requires).1
+pub time_left-requires-in_Else-wait : goal.time_left-requires-in_Else-wait
+time_left-requires-in_Else-wait c =
+    subst (λ acts. delays acts ≤ max_delay) (sym c.as_slice-in_Else-wait.ensures.value) (delays_kept (statement_row c.args.statement.now) c.requires).1
 
-pub returns-in-Then-wait : goal.returns-in-Then-wait
-returns-in-Then-wait c =
+pub returns-in_Then-wait : goal.returns-in_Then-wait
+returns-in_Then-wait c =
     let s = statement_row c.args.statement.now in
-    on_branch s c.args.wait.branch _ _ _ c.time-left.result (c.as-slice.ensures.value ∙ ap (actions s) c.in-Then-wait.ensures) c.count.ensures.value c.time-left.ensures
+    on_branch s c.args.wait.branch _ _ _ c.time_left.result (c.as_slice.ensures.value ∙ ap (actions s) c.in_Then-wait.ensures) c.count.ensures.value c.time_left.ensures
 
-pub returns-in-Else-wait : goal.returns-in-Else-wait
-returns-in-Else-wait c =
+pub returns-in_Else-wait : goal.returns-in_Else-wait
+returns-in_Else-wait c =
     let s = statement_row c.args.statement.now in
-    on_branch s c.args.wait.branch _ _ _ c.time-left-in-Else-wait.result (c.as-slice-in-Else-wait.ensures.value ∙ ap (actions s) c.in-Else-wait.ensures) c.count-in-Else-wait.ensures.value c.time-left-in-Else-wait.ensures
+    on_branch s c.args.wait.branch _ _ _ c.time_left-in_Else-wait.result (c.as_slice-in_Else-wait.ensures.value ∙ ap (actions s) c.in_Else-wait.ensures) c.count-in_Else-wait.ensures.value c.time_left-in_Else-wait.ensures

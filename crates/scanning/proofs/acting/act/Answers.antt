@@ -1,6 +1,6 @@
-use Rattle.std.proofs.Common.{◌≡◌, ℕ, ◌+◌, ◌≤◌, get_or, drop, sym, refl, ap, ◌∙◌, arith}
+use Rattle.std.proofs.Common.{◌+◌, drop, sym, refl, ◌∙◌, arith}
 use Rattle.std.proofs.lemmas.List.{at_drop_more, at_drop_all}
-use Rattle.tables.specs.Rules.{delay, delays}
+use Rattle.tables.specs.Rules.{delays}
 use Rattle.rules.specs.Acting.{timed, due, written_at, after_writes}
 use Rattle.memory.specs.Flags.{places_of}
 use Rattle.scanning.proofs.Waits.{no_action}
@@ -9,8 +9,8 @@ use Rattle.scanning.proofs.acting.act.Goals as goal
 pub loop-action-init : goal.loop-action-init
 loop-action-init g c = (refl, omega (arith, c.requires))
 
-pub act-one-wait-requires : goal.act-one-wait-requires
-act-one-wait-requires g c =
+pub act_one-wait-requires : goal.act_one-wait-requires
+act_one-wait-requires g c =
     let more = at_drop_more delays c.args.actions.now c.loop-action.action-index no_action c.loop-action-test.true in
     omega (arith, more, c.loop-action.invariant.1)
 
@@ -20,10 +20,10 @@ loop-action-preserved g c =
     let i = c.loop-action.action-index in
     let count = c.args.count.0 in
     let more = at_drop_more delays xs i no_action c.loop-action-test.true in (
-      c.act-one-wait.ensures.places (drop (i + 1) xs)
+      c.act_one-wait.ensures.places (drop (i + 1) xs)
           ∙ sym (at_drop_more (λ ys. after_writes (due count (timed c.loop-action.wait.0 ys)) (places_of (g.S.CellStore.cells c.loop-action.store) c.loop-action.flags)) xs i no_action c.loop-action-test.true)
           ∙ c.loop-action.invariant.0,
-      omega (arith, more, c.act-one-wait.ensures.wait, c.loop-action.invariant.1),
+      omega (arith, more, c.act_one-wait.ensures.wait, c.loop-action.invariant.1),
     )
 
 pub returns : goal.returns

@@ -1,4 +1,4 @@
-use Rattle.std.proofs.Common.{◌≡◌, ℕ, ◌+◌, ◌<◌, ◌≤◌, Bool, cond, ◌&&◌, ◌||◌, eqb, List, map, length, get_or, drop, sym, refl, ap, ◌∙◌, arith}
+use Rattle.std.proofs.Common.{◌+◌, Bool, ◌&&◌, ◌||◌, eqb, map, get_or, drop, sym, ap, ◌∙◌, arith}
 use Rattle.std.proofs.lemmas.List.{at_drop_all}
 use Rattle.tables.specs.Rows.{statement_row, plan_row}
 use Rattle.rules.specs.Enabling.{enabled_count, name_enabled}
@@ -24,18 +24,18 @@ loop-statement-preserved c =
     let plans = map plan_row c.args.plans.now in
     let within = c.loop-statement-test.true in
     let more = count_from plans (record { plan = c.args.plan }) xs i within in
-    let one = ap on_count c.is-enabled.ensures in
-    let bound = on_few c.is-enabled.result in
+    let one = ap on_count c.is_enabled.ensures in
+    let bound = on_few c.is_enabled.result in
     let noted = c.note.ensures.count in (
       omega (arith, more, one, noted, c.loop-statement.invariant.0),
       omega (arith, noted, bound, c.loop-statement.invariant.1),
       λ n.
           let rest : Bool = name_enabled plans (record { plan = c.args.plan }) (map statement_row (drop (i + 1) xs)) n in
           let is : Bool = is_there c.loop-statement.names n in
-          let mine : Bool = eqb (get_or xs i no_statement).name.0 n && c.is-enabled.result in
+          let mine : Bool = eqb (get_or xs i no_statement).name.0 n && c.is_enabled.result in
           ap (λ b. b || rest) (c.note.ensures.names n)
           ∙ or_turn mine is rest
-          ∙ ap (λ on. is || ((eqb (get_or xs i no_statement).name.0 n && on) || rest)) c.is-enabled.ensures
+          ∙ ap (λ on. is || ((eqb (get_or xs i no_statement).name.0 n && on) || rest)) c.is_enabled.ensures
           ∙ sym (ap (λ b. is || b) (names_from plans (record { plan = c.args.plan }) xs i within n))
           ∙ c.loop-statement.invariant.2 n,
     )

@@ -1,7 +1,4 @@
-use Rattle.std.proofs.Common.{◌≡◌, ℕ, true, List, map, sym, ap, ◌∙◌, ap₂}
-use Rattle.bounded.specs.Held.{held}
-use Rattle.tables.specs.declared.statement.Statement.{Statement}
-use Rattle.tables.specs.declared.plan.Plan.{Plan}
+use Rattle.std.proofs.Common.{ℕ, map, ap, ◌∙◌}
 use Rattle.tables.specs.Contents.{rows_of}
 use Rattle.tables.specs.Lists.{every}
 use Rattle.tables.specs.Rows.{statement_row, plan_row}
@@ -12,8 +9,8 @@ use Rattle.rules.proofs.Names.{well_named}
 use Rattle.scanning.proofs.EnabledOnes.{own_name_enabled}
 use Rattle.scanning.proofs.enabling.enabled_names.Goals as goal
 
-pub enabled-among-requires : goal.enabled-among-requires
-enabled-among-requires c =
+pub enabled_among-requires : goal.enabled_among-requires
+enabled_among-requires c =
     let t = c.args.table.now in
     (ap (λ xs. every statement_keeps (map statement_row xs)) c.statements.ensures.value ∙ (well_named (rows_of t) t.keeps).keep, c.statements.ensures.bound)
 
@@ -22,10 +19,10 @@ unfolding setting
 returns c =
     let t = c.args.table.now in
     let rows = rows_of t in
-    let found = c.enabled-among.ensures in
+    let found = c.enabled_among.ensures in
     let xs = c.statements.ensures.value in
     let ps = c.plans.ensures.value in
-    let n = c.number-shown.ensures in
+    let n = c.number_shown.ensures in
     let named = λ (name : ℕ). found.names name
     ∙ (λ i. name_enabled (map plan_row (ps i)) (record { plan = n i }) (map statement_row (xs i)) name) in
     record {

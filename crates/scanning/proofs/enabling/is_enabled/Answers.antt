@@ -1,4 +1,4 @@
-use Rattle.std.proofs.Common.{◌≡◌, map, sym, ap, ◌∙◌}
+use Rattle.std.proofs.Common.{map, sym, ap, ◌∙◌}
 use Rattle.tables.specs.declared.statement.Mark.{Mark}
 use Rattle.tables.specs.Rows.{plan_row}
 use Rattle.rules.specs.Enabling.{plan_lists, by_mark, enabled}
@@ -17,5 +17,5 @@ returns-in-Disabled c =
 pub returns-in-Planned : goal.returns-in-Planned
 unfolding enabled
 returns-in-Planned c =
-    c.is-planned.ensures
+    c.is_planned.ensures
     ∙ sym (ap (λ (m : Mark). by_mark m (plan_lists (map plan_row c.args.plans.now) c.args.plan c.args.statement.now.name.0)) c.in-Planned.is)

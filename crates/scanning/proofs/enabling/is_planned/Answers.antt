@@ -1,22 +1,21 @@
-use Rattle.std.proofs.Common.{◌≡◌, Bool, ◌&&◌, eqb, sym, ◌∙◌}
-use Rattle.tables.specs.declared.plan.Plan.{Plan}
+use Rattle.std.proofs.Common.{◌&&◌, eqb, sym, ◌∙◌}
 use Rattle.tables.specs.Lists.{member}
 use Rattle.tables.specs.Rows.{PlanRow, plan_row}
 use Rattle.scanning.proofs.Loops.{no_plan, some_hit, some_miss, some_end}
 use Rattle.scanning.proofs.enabling.is_planned.Goals as goal
 
-pub returns-then-is-listed-in : goal.returns-then-is-listed-in
-returns-then-is-listed-in c =
+pub returns-then-is_listed_in : goal.returns-then-is_listed_in
+returns-then-is_listed_in c =
     sym (some_hit plan_row (λ (p : PlanRow). eqb p.number c.args.number && member c.args.name.0 p.names)
     c.args.plans.now c.loop-plan.plan-index no_plan c.loop-plan-test.true
-    (sym c.is-listed-in.ensures ∙ c.if-is-listed-in.true))
+    (sym c.is_listed_in.ensures ∙ c.if-is_listed_in.true))
     ∙ c.loop-plan.invariant
 
 pub loop-plan-preserved : goal.loop-plan-preserved
 loop-plan-preserved c =
     sym (some_miss plan_row (λ (p : PlanRow). eqb p.number c.args.number && member c.args.name.0 p.names)
     c.args.plans.now c.loop-plan.plan-index no_plan c.loop-plan-test.true
-    (sym c.is-listed-in.ensures ∙ c.if-is-listed-in.false))
+    (sym c.is_listed_in.ensures ∙ c.if-is_listed_in.false))
     ∙ c.loop-plan.invariant
 
 pub returns : goal.returns

@@ -1,8 +1,8 @@
-use Rattle.std.proofs.Common.{◌≡◌, ℕ, ◌+◌, ◌<◌, ◌≤◌, ◌⊎◌, List, [], ◌∷◌, get_or, drop, sym, refl, ap, ◌∙◌, subst, inl, inr, arith}
+use Rattle.std.proofs.Common.{◌+◌, get_or, drop, sym, ◌∙◌, subst, inl, inr, arith}
 use Rattle.std.proofs.lemmas.List.{at_drop_more, at_drop_all}
 use Rattle.tables.specs.Lists.{Among}
-use Rattle.tables.specs.Rules.{delay, delays}
-use Rattle.rules.specs.Acting.{Timed, timed}
+use Rattle.tables.specs.Rules.{delays}
+use Rattle.rules.specs.Acting.{timed}
 use Rattle.scanning.proofs.Waits.{no_action, waits_from, among_below}
 use Rattle.scanning.proofs.left.next_wait.Goals as goal
 
@@ -27,8 +27,8 @@ returns-in-Some c =
       ];
     }
 
-pub wait-below-wait-requires : goal.wait-below-wait-requires
-wait-below-wait-requires c =
+pub wait_below-wait-requires : goal.wait_below-wait-requires
+wait_below-wait-requires c =
     let more = at_drop_more delays c.args.actions.now c.loop-action.action-index no_action c.loop-action-test.true in
     omega (arith, more, c.loop-action.invariant.2)
 
@@ -41,7 +41,7 @@ loop-action-preserved c =
     let within = c.loop-action-test.true in
     let more = at_drop_more delays xs i no_action within in
     let at = at_drop_more (timed wait) xs i no_action within in
-    let next = c.wait-below-wait.ensures in
+    let next = c.wait_below-wait.ensures in
     let rest = c.in_default.ensures (drop (i + 1) xs) in (
       λ a m. elim (inv.0 a m) [
         | inl low ↦ inl low

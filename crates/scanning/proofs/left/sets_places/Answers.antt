@@ -1,9 +1,9 @@
-use Rattle.std.proofs.Common.{◌≡◌, ℕ, List, [], ◌∷◌, refl, ap}
+use Rattle.std.proofs.Common.{[], ◌∷◌, refl, ap}
 use Rattle.tables.specs.declared.action.Action.{Action}
 use Rattle.tables.specs.Families.{cells_named}
 use Rattle.tables.specs.Rules.{delay}
 use Rattle.cells.specs.Cells.{is_on}
-use Rattle.rules.specs.Acting.{Timed, timed}
+use Rattle.rules.specs.Acting.{timed}
 use Rattle.scanning.proofs.left.sets_places.Goals as goal
 
 pub returns-in-SetPlace : goal.returns-in-SetPlace

@@ -1,4 +1,4 @@
-use Rattle.std.proofs.Common.{◌≡◌, ℕ, ◌+◌, ◌-◌, ◌<◌, ◌≤◌, List, map, sym, ap, ◌∙◌, arith}
+use Rattle.std.proofs.Common.{◌+◌, ◌-◌, ◌<◌, ◌≤◌, map, sym, ap, ◌∙◌, arith}
 use Rattle.std.specs.List.{range_with_len}
 use Rattle.tables.specs.Spans.{span_cell}
 use Rattle.cells.specs.Cells.{is_on}
@@ -13,7 +13,7 @@ loop-k-preserved g c =
     let on = is_on c.args.state in
     let k = c.loop-k.k in
     let within : k < span.count = omega (arith, c.count-k-end.ensures, c.loop-k-test.true) in
-    ap (after_writes (writes (map (span_cell span) (range_with_len (k + 1) (span.count - (k + 1)))) on)) c.set-cell.ensures
+    ap (after_writes (writes (map (span_cell span) (range_with_len (k + 1) (span.count - (k + 1)))) on)) c.set_cell.ensures
     ∙ sym (counting_more (λ ns. after_writes (writes (map (span_cell span) ns) on) (places_of (g.S.CellStore.cells c.loop-k.store) c.loop-k.flags)) span.count k within)
     ∙ c.loop-k.invariant
 

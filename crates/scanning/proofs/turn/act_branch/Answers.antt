@@ -1,4 +1,4 @@
-use Rattle.std.proofs.Common.{◌≡◌, ◌≤◌, sym, ap, subst}
+use Rattle.std.proofs.Common.{◌≤◌, sym, ap, subst}
 use Rattle.tables.specs.Limits.{max_delay}
 use Rattle.tables.specs.Rows.{statement_row}
 use Rattle.tables.specs.Rules.{delays}
@@ -11,11 +11,11 @@ use Rattle.scanning.proofs.turn.act_branch.Goals as goal
 
 pub act-requires : goal.act-requires
 act-requires g c =
-    subst (λ acts. delays acts ≤ max_delay) (sym c.as-slice.ensures.value) (delays_kept (statement_row c.args.statement.now) c.requires).0
+    subst (λ acts. delays acts ≤ max_delay) (sym c.as_slice.ensures.value) (delays_kept (statement_row c.args.statement.now) c.requires).0
 
 pub act-requires-in-Else : goal.act-requires-in-Else
 act-requires-in-Else g c =
-    subst (λ acts. delays acts ≤ max_delay) (sym c.as-slice-in-Else.ensures.value) (delays_kept (statement_row c.args.statement.now) c.requires).1
+    subst (λ acts. delays acts ≤ max_delay) (sym c.as_slice-in-Else.ensures.value) (delays_kept (statement_row c.args.statement.now) c.requires).1
 
 pub returns-in-Neither : goal.returns-in-Neither
 unfolding written_at

@@ -1,4 +1,4 @@
-use Rattle.std.proofs.Common.{◌≡◌, ℕ, ◌+◌, List, map, get_or, drop, sym, refl, ap, ◌∙◌, subst}
+use Rattle.std.proofs.Common.{◌+◌, map, get_or, drop, sym, refl, ap, ◌∙◌, subst}
 use Rattle.std.proofs.lemmas.List.{at_drop_more, at_drop_all}
 use Rattle.tables.specs.Lists.{Among}
 use Rattle.tables.specs.Rows.{statement_row}
@@ -11,8 +11,8 @@ use Rattle.scanning.proofs.turn.run_all.Goals as goal
 pub loop-statement-init : goal.loop-statement-init
 loop-statement-init g c = λ t e on. refl
 
-pub run-statement-requires : goal.run-statement-requires
-run-statement-requires g c = (c.requires.0, keeps_at c.args.statements.now c.loop-statement.statement-index c.loop-statement-test.true c.requires.1)
+pub run_statement-requires : goal.run_statement-requires
+run_statement-requires g c = (c.requires.0, keeps_at c.args.statements.now c.loop-statement.statement-index c.loop-statement-test.true c.requires.1)
 
 pub loop-statement-preserved : goal.loop-statement-preserved
 loop-statement-preserved g c = λ t e on.
@@ -21,7 +21,7 @@ loop-statement-preserved g c = λ t e on.
     let frame = c.args.frame.now in
     let within = c.loop-statement-test.true in
     let here = on.own (statement_row (get_or xs i no_statement)) (subst (Among (statement_row (get_or xs i no_statement))) (sym e) (among_at statement_row xs i no_statement within)) in
-    ap (turns t frame (map statement_row (drop (i + 1) xs))) (c.run-statement.ensures t on.named here)
+    ap (turns t frame (map statement_row (drop (i + 1) xs))) (c.run_statement.ensures t on.named here)
     ∙ sym (at_drop_more (λ ys. turns t frame (map statement_row ys) (memory_of (g.S.CellStore.cells c.loop-statement.store) c.loop-statement.flags c.loop-statement.waits)) xs i no_statement within)
     ∙ c.loop-statement.invariant t e on
 

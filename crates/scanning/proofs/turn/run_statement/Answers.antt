@@ -1,4 +1,4 @@
-use Rattle.std.proofs.Common.{◌≡◌, ℕ, List, sym, ap, ◌∙◌, ap₂}
+use Rattle.std.proofs.Common.{◌≡◌, ℕ, List, ap, ◌∙◌, ap₂}
 use Rattle.tables.specs.Limits.{last_name}
 use Rattle.tables.specs.Rows.{StatementRow, statement_row}
 use Rattle.rules.specs.declared.branch.Branch.{Branch}
@@ -9,7 +9,6 @@ use Rattle.rules.specs.Scanning.{stepped, actions, branch_by, branch_now, acted}
 use Rattle.documents.proofs.Pigeonhole.{counted_bounds}
 use Rattle.memory.specs.Flags.{places_of}
 use Rattle.memory.specs.Waits.{waits_in}
-use Rattle.scanning.specs.Memories.{memory_of}
 use Rattle.scanning.proofs.EnabledOnes.{name_kept}
 use Rattle.scanning.proofs.turn.run_statement.Goals as goal
 
@@ -32,8 +31,8 @@ returns g c = λ t named own.
     let places = places_of (g.S.CellStore.cells c.args.store.now) c.args.flags.now in
     let waits = waits_in c.args.waits.now in
     let m : Memory = record { places = places; waits = waits } in
-    let e : c.branch-now-branch.result ≡ branch_now t c.args.frame.now s places =
-    c.branch-now-branch.ensures
+    let e : c.branch_now-branch.result ≡ branch_now t c.args.frame.now s places =
+    c.branch_now-branch.ensures
     ∙ ap₂ branch_by own (ap (λ (on : ℕ → _). holds (seen c.args.frame.now on places) s.tests) (λ i n. named n i)) in
-    at_branch s c.branch-now-branch.result c.step-count.result.0 places _ waits _ c.act-branch.ensures c.step-count.ensures.count c.step-count.ensures.waits
+    at_branch s c.branch_now-branch.result c.step-count.result.0 places _ waits _ c.act_branch.ensures c.step-count.ensures.count c.step-count.ensures.waits
     ∙ ap (λ (b : Branch). acted s b (stepped (wait_of s.name waits) b) m) e

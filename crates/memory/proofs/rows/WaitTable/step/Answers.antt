@@ -11,8 +11,8 @@ returns c =
     let at = c.index-at.result in
     let read = row_read rows at _ c.index-at.ensures in
     record {
-      waits = row_written rows at _ c.step-row.new.row c.index-at.ensures _
-          (c.step-row.ensures.step ∙ ap (λ (w : Wait). stepped w c.args.taken) read);
-      count = c.step-row.ensures.count ∙ ap (λ (w : Wait). (stepped w c.args.taken).count) read;
+      waits = row_written rows at _ c.step_row.new.row c.index-at.ensures _
+          (c.step_row.ensures.step ∙ ap (λ (w : Wait). stepped w c.args.taken) read);
+      count = c.step_row.ensures.count ∙ ap (λ (w : Wait). (stepped w c.args.taken).count) read;
       whole = simp length-map (search rules);
     }

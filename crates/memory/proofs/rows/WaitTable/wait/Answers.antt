@@ -5,7 +5,7 @@ use Rattle.memory.proofs.rows.WaitTable.wait.Goals as goal
 
 pub returns-in-1-to-100 : goal.returns-in-1-to-100
 returns-in-1-to-100 c =
-    let e = c.from-row.ensures ∙ row_read c.args.self.now.rows c.index.result _ c.index.ensures in
+    let e = c.from_row.ensures ∙ row_read c.args.self.now.rows c.index.result _ c.index.ensures in
     record { named = λ _ _. e; unnamed = λ out. grind (arith, nat_tests) }
 
 pub returns-in_default : goal.returns-in_default

@@ -1,4 +1,3 @@
-use Rattle.std.proofs.Common.{◌≡◌}
 use Rattle.rules.specs.Memory.{blank}
 use Rattle.tables.specs.Contents.{rows_of}
 use Rattle.processor.proofs.parts.Processor.clear.Goals as goal

@@ -1,4 +1,4 @@
-use Rattle.std.proofs.Common.{◌≡◌, true, map, get_or, sym, ap, ◌∙◌, subst}
+use Rattle.std.proofs.Common.{map, get_or, ap, ◌∙◌, subst}
 use Rattle.tables.specs.Contents.{rows_of}
 use Rattle.tables.specs.Lists.{Among, every}
 use Rattle.tables.specs.Rows.{statement_row}

@@ -1,4 +1,4 @@
-use Rattle.std.proofs.Common.{◌≡◌, subst}
+use Rattle.std.proofs.Common.{subst}
 use Rattle.tables.specs.Limits.{last_name}
 use Rattle.tables.specs.Rows.{statement_row}
 use Rattle.rules.specs.Memory.{Wait}
@@ -14,4 +14,4 @@ returns-in-Some g c =
     let found = c.in-Some.ensures in
     let bounds = counted_bounds last_name s.name (name_kept s found.keeps) in
     let held = c.wait.ensures.named bounds.0 bounds.1 in
-    (s, found.named, subst (λ (w : Wait). TimeLeft (actions s w.branch) w.count c.left-of.result) held c.left-of.ensures)
+    (s, found.named, subst (λ (w : Wait). TimeLeft (actions s w.branch) w.count c.left_of.result) held c.left_of.ensures)
