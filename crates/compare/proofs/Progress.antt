@@ -115,9 +115,9 @@ module _ (t u : TableRows) (done : List Step) (step : Step) (f g : Option (List 
           here = c.here ++ m ∷ [];
           there = c.there ++ n ∷ [];
           run = run_more (fresh t) c.here m c.run (c.ends ∙ sym mb) rm;
-          run_too = run_more (fresh u) c.there n c.run-too (c.ends-too ∙ sym nb) rn;
+          run_too = run_more (fresh u) c.there n c.run_too (c.ends_too ∙ sym nb) rn;
           made = map_push (λ (x : Moment). x.call) c.here m ∙ ap₂ (λ cs x. cs ++ x ∷ []) c.made mc ∙ sym (map_push first_call done step);
-          made_too = map_push (λ (x : Moment). x.call) c.there n ∙ ap₂ (λ cs x. cs ++ x ∷ []) c.made-too nc ∙ sym (map_push second_call done step);
+          made_too = map_push (λ (x : Moment). x.call) c.there n ∙ ap₂ (λ cs x. cs ++ x ∷ []) c.made_too nc ∙ sym (map_push second_call done step);
           ends = end_more (fresh t) c.here m;
           ends_too = end_more (fresh u) c.there n;
           first = subst (λ i. FirstDifference (c.here ++ m ∷ []) (c.there ++ n ∷ []) (either_found found i kind)) count
@@ -163,12 +163,12 @@ none_first ms ns (Some d) h k =
 pub alike_throughout : (d e : List ℕ) (t u : TableRows) (steps : List Step) (a b : ProcessorState) (r : Option Difference) → reading d ≡ Ok t → reading e ≡ Ok u
     → (c : Compared t u steps a b r) → Rearrangement t u → CallsAlike t (map first_call steps) (map second_call steps) → AlikeThroughout t u steps a b r c
 alike_throughout d e t u steps a b r p q c re alike =
-    let calls-too : CallsAlike t (calls c.here) (calls c.there) = subst₂ (CallsAlike t) (sym c.made) (sym c.made-too) alike in
-    let along = rearranged_tables_run_alike d e t u p q re c.here c.there c.run c.run-too calls-too in
+    let calls-too : CallsAlike t (calls c.here) (calls c.there) = subst₂ (CallsAlike t) (sym c.made) (sym c.made_too) alike in
+    let along = rearranged_tables_run_alike d e t u p q re c.here c.there c.run c.run_too calls-too in
     let tables = tables_alike t u (accepted_tables_keep_the_rules d t p) (accepted_tables_keep_the_rules e u q) re in
-    let rel = related_end t None None (fresh t) (fresh u) c.here c.there (related_fresh t u tables) c.run c.run-too calls-too in
+    let rel = related_end t None None (fresh t) (fresh u) c.here c.there (related_fresh t u tables) c.run c.run_too calls-too in
     let rel-ends : Related t (last_of None c.here) (last_of None c.there) a b =
-    subst₂ (Related t (last_of None c.here) (last_of None c.there)) c.ends c.ends-too rel in
+    subst₂ (Related t (last_of None c.here) (last_of None c.there)) c.ends c.ends_too rel in
     let near = rel-ends.memories in
     record {
       none_found = none_first c.here c.there r (nothing_found None None c.here c.there along) c.first;

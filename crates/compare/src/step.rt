@@ -56,7 +56,7 @@ impl<'a> Step<'a> {
 
 /// Makes a call.
 pub fn perform<S: CellStore>(processor: &mut Processor<S>, call: Call) -> Result<usize, Refusal>
-    ensures { Rule (call_meant call.entry) (state cells processor.old) (answered result) (state cells processor.new) }
+    ensures { Rule (call_meant call.entry) (state S.cells processor.old) (answered result) (state S.cells processor.new) }
 {
     match call {
         Call::Scan(frame) => processor.scan(frame),

@@ -10,5 +10,5 @@ use Rattle.compare.proofs.bench.run_both.Given as goal
 abbrev pub invariant-loop-i : goal.invariant-loop-i
 invariant-loop-i g l =
     (t u : TableRows) → state g.P.CellStore.cells l.initial.first ≡ fresh t → state g.Q.CellStore.cells l.initial.second ≡ fresh u
-    → (f : Option (List ℕ)) × (h : Option (List ℕ)) × Shows l.first-frame f × Shows l.second-frame h
+    → (f : Option (List ℕ)) × (h : Option (List ℕ)) × Shows l.first_frame f × Shows l.second_frame h
     × SoFar t u (take l.i l.steps) f h (state g.P.CellStore.cells l.first) (state g.Q.CellStore.cells l.second) l.found

@@ -8,15 +8,15 @@ use Rattle.compare.proofs.cells_alike.are_cells_alike.Goals as goal
 pub loop-index-init : goal.loop-index-init
 loop-index-init g c = λ f h p q i k. absurd (omega arith)
 
-pub returns-then-not-is-cell-alike : goal.returns-then-not-is-cell-alike
-returns-then-not-is-cell-alike g c = λ f h p q. (
+pub returns-then-not-is_cell_alike : goal.returns-then-not-is_cell_alike
+returns-then-not-is_cell_alike g c = λ f h p q. (
   λ e. absurd (false≢true e),
-  λ all. absurd (false≢true (sym c.if-not-is-cell-alike.true ∙ (c.is-cell-alike.ensures f h p q).1 (all c.loop-index.index))),
+  λ all. absurd (false≢true (sym c.if-not-is_cell_alike.true ∙ (c.is_cell_alike.ensures f h p q).1 (all c.loop-index.index))),
 )
 
 pub loop-index-preserved : goal.loop-index-preserved
 loop-index-preserved g c = λ f h p q.
-    below_more _ _ (c.loop-index.invariant f h p q) ((c.is-cell-alike.ensures f h p q).0 c.if-not-is-cell-alike.false)
+    below_more _ _ (c.loop-index.invariant f h p q) ((c.is_cell_alike.ensures f h p q).0 c.if-not-is_cell_alike.false)
 
 pub returns : goal.returns
 returns g c = λ f h p q. (
