@@ -1,5 +1,5 @@
 -- One step more of two runs.
-use Rattle.std.proofs.Common.{◌≡◌, ℕ, ◌+◌, ◌⊎◌, List, [], ◌∷◌, ◌++◌, map, length, Some, None, Ok, Option, sym, refl, ap, ◌∙◌, subst, ap₂, subst₂, inl, inr, append_assoc, arith}
+use Rattle.std.proofs.Common.{◌≡◌, ℕ, List, [], ◌∷◌, ◌++◌, map, length, Some, None, Ok, Option, sym, refl, ap, ◌∙◌, subst, ap₂, subst₂, append_assoc}
 use Rattle.std.proofs.lemmas.List.{map_push, length-map}
 use Rattle.tables.specs.Rows.{TableRows}
 use Rattle.documents.specs.Documents.{reading}
@@ -15,8 +15,8 @@ use Rattle.compare.specs.declared.kind.Kind.{Kind}
 use Rattle.compare.specs.declared.kind.Kind.TheVariants.{Answer, Flag, WaitRecord, Cell}
 use Rattle.compare.specs.declared.kind.Difference.{Difference}
 use Rattle.compare.specs.Steps.{first_call, second_call}
-use Rattle.compare.specs.Differences.{FoundAfter, FoundAt, NothingFound, FirstOf, FirstDifference, either_found}
-use Rattle.compare.specs.Comparing.{AlikeStates, Compared, AlikeThroughout}
+use Rattle.compare.specs.Differences.{FoundAt, NothingFound, FirstDifference, either_found}
+use Rattle.compare.specs.Comparing.{Compared, AlikeThroughout}
 
 -- ---- one moment more at the end of a run
 
@@ -146,12 +146,12 @@ one_or_other f g m n Flag h k = k.1 h.1
 one_or_other f g m n WaitRecord h k = k.2 h.2
 one_or_other f g m n Cell h k = k.3 h.3
 
-nothing_at : (f g : Option (List ℕ)) (ps qs : List Moment) (m n : Moment) (rest rest-too : List Moment) → NothingFound f g ps qs
-    → NothingFound f g (ps ++ m ∷ rest) (qs ++ n ∷ rest-too) → FoundAt (last_frame (last_of f ps) m.call) (last_frame (last_of g qs) n.call) m n None
-nothing_at f g [] [] m n rest rest-too h k = k.0
-nothing_at f g [] (q ∷ qs) m n rest rest-too h k = absurd h
-nothing_at f g (p ∷ ps) [] m n rest rest-too h k = absurd h
-nothing_at f g (p ∷ ps) (q ∷ qs) m n rest rest-too h k = nothing_at (last_frame f p.call) (last_frame g q.call) ps qs m n rest rest-too h.1 k.1
+nothing_at : (f g : Option (List ℕ)) (ps qs : List Moment) (m n : Moment) (rest rest_too : List Moment) → NothingFound f g ps qs
+    → NothingFound f g (ps ++ m ∷ rest) (qs ++ n ∷ rest_too) → FoundAt (last_frame (last_of f ps) m.call) (last_frame (last_of g qs) n.call) m n None
+nothing_at f g [] [] m n rest rest_too h k = k.0
+nothing_at f g [] (q ∷ qs) m n rest rest_too h k = absurd h
+nothing_at f g (p ∷ ps) [] m n rest rest_too h k = absurd h
+nothing_at f g (p ∷ ps) (q ∷ qs) m n rest rest_too h k = nothing_at (last_frame f p.call) (last_frame g q.call) ps qs m n rest rest_too h.1 k.1
 
 none_first : (ms ns : List Moment) (r : Option Difference) → NothingFound None None ms ns → FirstDifference ms ns r → r ≡ None
 none_first ms ns None h k = refl
@@ -163,13 +163,13 @@ none_first ms ns (Some d) h k =
 pub alike_throughout : (d e : List ℕ) (t u : TableRows) (steps : List Step) (a b : ProcessorState) (r : Option Difference) → reading d ≡ Ok t → reading e ≡ Ok u
     → (c : Compared t u steps a b r) → Rearrangement t u → CallsAlike t (map first_call steps) (map second_call steps) → AlikeThroughout t u steps a b r c
 alike_throughout d e t u steps a b r p q c re alike =
-    let calls-too : CallsAlike t (calls c.here) (calls c.there) = subst₂ (CallsAlike t) (sym c.made) (sym c.made_too) alike in
-    let along = rearranged_tables_run_alike d e t u p q re c.here c.there c.run c.run_too calls-too in
+    let calls_too : CallsAlike t (calls c.here) (calls c.there) = subst₂ (CallsAlike t) (sym c.made) (sym c.made_too) alike in
+    let along = rearranged_tables_run_alike d e t u p q re c.here c.there c.run c.run_too calls_too in
     let tables = tables_alike t u (accepted_tables_keep_the_rules d t p) (accepted_tables_keep_the_rules e u q) re in
-    let rel = related_end t None None (fresh t) (fresh u) c.here c.there (related_fresh t u tables) c.run c.run_too calls-too in
-    let rel-ends : Related t (last_of None c.here) (last_of None c.there) a b =
+    let rel = related_end t None None (fresh t) (fresh u) c.here c.there (related_fresh t u tables) c.run c.run_too calls_too in
+    let rel_ends : Related t (last_of None c.here) (last_of None c.there) a b =
     subst₂ (Related t (last_of None c.here) (last_of None c.there)) c.ends c.ends_too rel in
-    let near = rel-ends.memories in
+    let near = rel_ends.memories in
     record {
       none_found = none_first c.here c.there r (nothing_found None None c.here c.there along) c.first;
       along = along;

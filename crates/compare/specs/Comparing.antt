@@ -1,5 +1,5 @@
 -- What a comparison of two processors does and answers.
-use Rattle.std.specs.Prelude.{◌≡◌, ℕ, false, List, map, Some, None, Ok, Err, Option, Result, slice_index_or}
+use Rattle.std.specs.Prelude.{◌≡◌, ℕ, false, List, map, None, Ok, Err, Option, Result, slice_index_or}
 use Rattle.tables.specs.Refusals.{told}
 use Rattle.tables.specs.Rows.{TableRows}
 use Rattle.documents.specs.Documents.{reading}
@@ -19,13 +19,13 @@ use Rattle.compare.specs.Shown.{Shows}
 use Rattle.compare.specs.Differences.{FoundAfter, FirstDifference}
 
 -- One step in both: each call keeps its rule, the frames accepted last are kept, and what is found is what differs.
-pub record Stepped (f g : Option (List ℕ)) (step : Step) (a b a' b' : ProcessorState) (l l-too : LastFrame) (kind : Option Kind) : Type 0 where
+pub record Stepped (f g : Option (List ℕ)) (step : Step) (a b a' b' : ProcessorState) (l l_too : LastFrame) (kind : Option Kind) : Type 0 where
   pub answer : Answer
   pub answer_too : Answer
   pub rule : Rule (first_call step) a answer a'
   pub rule_too : Rule (second_call step) b answer_too b'
   pub frame : Shows l (last_frame f (first_call step))
-  pub frame_too : Shows l-too (last_frame g (second_call step))
+  pub frame_too : Shows l_too (last_frame g (second_call step))
   pub found : FoundAfter (last_frame f (first_call step)) (last_frame g (second_call step)) answer answer_too a' b' kind
 
 -- Two states of runs of rearranged tables, where f and g are the frames accepted last.
@@ -57,13 +57,13 @@ pub record AlikeThroughout (t u : TableRows) (steps : List Step) (a b : Processo
   pub at_the_end : AlikeStates (last_of None c.here) (last_of None c.there) a b
 
 -- what a comparison answers, taken or refused, with the states before and after it
-abbrev pub Comparison : (document document-too : List ℕ) → List Step → (a b a' b' : ProcessorState)
+abbrev pub Comparison : (document document_too : List ℕ) → List Step → (a b a' b' : ProcessorState)
     → Result (Option Difference) RefusedDocument → Type 0
-Comparison document document-too steps a b a' b' (Ok r) =
-    (t : TableRows) × (u : TableRows) × (reading document ≡ Ok t) × (reading document-too ≡ Ok u)
+Comparison document document_too steps a b a' b' (Ok r) =
+    (t : TableRows) × (u : TableRows) × (reading document ≡ Ok t) × (reading document_too ≡ Ok u)
     × ((c : Compared t u steps a' b' r)
     × (Rearrangement t u → CallsAlike t (map first_call steps) (map second_call steps) → AlikeThroughout t u steps a' b' r c))
-Comparison document document-too steps a b a' b' (Err (First refusal)) =
+Comparison document document_too steps a b a' b' (Err (First refusal)) =
     (reading document ≡ Err (told refusal)) × (a' ≡ a) × (b' ≡ b)
-Comparison document document-too steps a b a' b' (Err (Second refusal)) =
-    (t : TableRows) × (reading document ≡ Ok t) × (reading document-too ≡ Err (told refusal)) × (a' ≡ a) × (b' ≡ b)
+Comparison document document_too steps a b a' b' (Err (Second refusal)) =
+    (t : TableRows) × (reading document ≡ Ok t) × (reading document_too ≡ Err (told refusal)) × (a' ≡ a) × (b' ≡ b)

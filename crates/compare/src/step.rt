@@ -10,12 +10,11 @@ use processor::parts::Processor;
 use tables::refusal::Refusal;
 use tables::statement::Name;
 
-/// One step: a scan with a frame for each processor, or the same switch, reorder or restart in both.
+/// One step: a scan with a frame for each processor, or the same switch or restart in both.
 #[derive(Clone, Copy)]
 pub enum Step<'a> {
     Scan(&'a [u8], &'a [u8]),
     Switch(Name, char),
-    Reorder(&'a [Name]),
     Restart,
 }
 
@@ -24,7 +23,6 @@ pub enum Step<'a> {
 pub enum Call<'a> {
     Scan(&'a [u8]),
     Switch(Name, char),
-    Reorder(&'a [Name]),
     Restart,
 }
 
@@ -36,7 +34,6 @@ impl<'a> Step<'a> {
         match self {
             Step::Scan(frame, _) => Call::Scan(frame),
             Step::Switch(name, character) => Call::Switch(name, character),
-            Step::Reorder(order) => Call::Reorder(order),
             Step::Restart => Call::Restart,
         }
     }
@@ -48,7 +45,6 @@ impl<'a> Step<'a> {
         match self {
             Step::Scan(_, frame) => Call::Scan(frame),
             Step::Switch(name, character) => Call::Switch(name, character),
-            Step::Reorder(order) => Call::Reorder(order),
             Step::Restart => Call::Restart,
         }
     }
@@ -61,7 +57,6 @@ pub fn perform<S: CellStore>(processor: &mut Processor<S>, call: Call) -> Result
     match call {
         Call::Scan(frame) => processor.scan(frame),
         Call::Switch(name, character) => processor.switch(name, character),
-        Call::Reorder(order) => Err(Refusal::NotTheNames),
         Call::Restart => Ok(processor.restart()),
     }
 }

@@ -1,9 +1,9 @@
-// A mark switched, statements put into another order, and a restart.
+// A mark switched, and a restart.
 ghost use Rattle.std.specs.Prelude.{◌≡◌, true, map, Some, Ok};
 ghost use Rattle.bounded.specs.Held.{held};
 ghost use Rattle.tables.specs.Rows.{name_number};
 ghost use Rattle.rules.specs.Reordering.{answered};
-ghost use Rattle.rules.specs.Calls.{Rule, switched, switch as switch-call, reorder as reorder-call, restart as restart-call};
+ghost use Rattle.rules.specs.Calls.{Rule, switched, switch as switch_call, restart as restart_call};
 ghost use Rattle.reordering.specs.Places.{StandsAt};
 ghost use Rattle.processor.specs.States.{state};
 
@@ -26,7 +26,7 @@ impl<S: CellStore> Processor<S> {
 
     /// Gives the statement of a name the mark of a character, E, D or the full stop, and answers 0.
     pub fn switch(&mut self, name: Name, character: char) -> Result<usize, Refusal>
-        ensures { Rule (switch-call name.0 character) (state S.cells self.old) (answered result) (state S.cells self.new) }
+        ensures { Rule (switch_call name.0 character) (state S.cells self.old) (answered result) (state S.cells self.new) }
     {
         let Some(at) = find(self.table.statements(), name) else {
             return Err(Refusal::NoSuchStatement);
@@ -41,7 +41,7 @@ impl<S: CellStore> Processor<S> {
 
     /// Turns all cells and flags OFF and makes every name hold no branch, and answers 0. Table, order and marks stay.
     pub fn restart(&mut self) -> usize
-        ensures { Rule restart-call (state S.cells self.old) (Ok result) (state S.cells self.new) }
+        ensures { Rule restart_call (state S.cells self.old) (Ok result) (state S.cells self.new) }
     {
         self.clear();
         0

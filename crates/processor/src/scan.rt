@@ -4,7 +4,7 @@ ghost use Rattle.rules.specs.Frames.{frame_bytes, setting};
 ghost use Rattle.rules.specs.Enabling.{enabled_count};
 ghost use Rattle.rules.specs.Scanning.{frame_taken, turns, scanned};
 ghost use Rattle.rules.specs.Reordering.{answered};
-ghost use Rattle.rules.specs.Calls.{Rule, scan as scan-call};
+ghost use Rattle.rules.specs.Calls.{Rule, scan as scan_call};
 ghost use Rattle.scanning.specs.EnabledNames.{EnabledBy};
 ghost use Rattle.processor.specs.States.{state, remembers};
 
@@ -57,7 +57,7 @@ impl<S: CellStore> Processor<S> {
     /// Scans one frame: the store takes its cells, every enabled statement runs in table order, and the answer is how many were
     /// enabled. Bytes that are no frame are refused and change nothing.
     pub fn scan(&mut self, frame: &[u8]) -> Result<usize, Refusal>
-        ensures { Rule (scan-call frame.now) (state S.cells self.old) (answered result) (state S.cells self.new) }
+        ensures { Rule (scan_call frame.now) (state S.cells self.old) (answered result) (state S.cells self.new) }
     {
         if frame.len() != FRAME_BYTES {
             return Err(Refusal::NotAFrame);

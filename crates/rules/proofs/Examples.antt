@@ -55,12 +55,12 @@ pub worked_examples : WorkedExamples
 unfolding table_keeps blank tabulated cleared bit number_shown setting enabled truth holds written_at stepped branch_now
 worked_examples = record {
   documents = documents;
-  one-statement-scanned = refl;
+  one_statement_scanned = refl;
   timer_is = refl;
   timer_is_not = refl;
   timer_greater = refl;
   joined_from_the_top = refl;
-  whole-family-off = refl;
+  whole_family_off = refl;
   not_in_the_first = refl;
   not_in_the_second = refl;
   not_in_the_third = refl;

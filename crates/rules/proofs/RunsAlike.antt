@@ -44,8 +44,8 @@ related_end z f g a b [] [] rel p q alike = rel
 related_end z f g a b [] (n ∷ ns) rel p q alike = absurd alike
 related_end z f g a b (m ∷ ms) [] rel p q alike = absurd alike
 related_end z f g a b (m ∷ ms) (n ∷ ns) rel p q alike =
-    let rel-too : Related z f g m.before n.before = subst (λ s. Related z f g s n.before) (sym p.0) (subst (Related z f g a) (sym q.0) rel) in
-    let next = agree_next z f g m n rel-too alike.0 p.1 q.1 in
+    let rel_too : Related z f g m.before n.before = subst (λ s. Related z f g s n.before) (sym p.0) (subst (Related z f g a) (sym q.0) rel) in
+    let next = agree_next z f g m n rel_too alike.0 p.1 q.1 in
     related_end z (last_frame f m.call) (last_frame g n.call) m.after n.after ms ns next.1 p.2 q.2 alike.1
 
 agree_along : (z : TableRows) (f g : Option (List ℕ)) (a b : ProcessorState) (ms ns : List Moment) → Related z f g a b → Run a ms → Run b ns
@@ -54,8 +54,8 @@ agree_along z f g a b [] [] rel p q alike = tt
 agree_along z f g a b [] (n ∷ ns) rel p q alike = alike
 agree_along z f g a b (m ∷ ms) [] rel p q alike = alike
 agree_along z f g a b (m ∷ ms) (n ∷ ns) rel p q alike =
-    let rel-too : Related z f g m.before n.before = subst (λ s. Related z f g s n.before) (sym p.0) (subst (Related z f g a) (sym q.0) rel) in
-    let next = agree_next z f g m n rel-too alike.0 p.1 q.1 in
+    let rel_too : Related z f g m.before n.before = subst (λ s. Related z f g s n.before) (sym p.0) (subst (Related z f g a) (sym q.0) rel) in
+    let next = agree_next z f g m n rel_too alike.0 p.1 q.1 in
     (next.0, agree_along z (last_frame f m.call) (last_frame g n.call) m.after n.after ms ns next.1 p.2 q.2 alike.1)
 
 pub rearranged_tables_run_alike : RearrangedTablesRunAlike

@@ -14,9 +14,9 @@ up : (t : TableRows) (f : List ℕ) (x : StatementRow) (p q : List StatementRow)
     → turns t f (p ++ (x ∷ q)) m ≡ turns t f (p ++ q) (turn t f x m)
 up t f x [] q h m = refl
 up t f x (y ∷ p) q h m =
-    let y-may = h y (inl refl) in
+    let y_may = h y (inl refl) in
     up t f x p q (λ b k. h b (inr k)) (turn t f y m)
-    ∙ ap (turns t f (p ++ q)) (turns_commute t f x y y-may.apart y-may.named y-may.named_too y-may.differ m)
+    ∙ ap (turns t f (p ++ q)) (turns_commute t f x y y_may.apart y_may.named y_may.named_too y_may.differ m)
 
 -- whatever the frame and the memory
 pub order_does_not_matter : (t : TableRows) (f : List ℕ) (xs ys : List StatementRow) → Shuffle xs ys → (m : Memory) → turns t f xs m ≡ turns t f ys m

@@ -23,9 +23,9 @@ module _ (t : TableRows) (f : List ℕ) where
       → wait_of name (turns t f xs m).waits ≡ wait_of name m.waits
   turns_leave_record [] name h k m = refl
   turns_leave_record (s ∷ xs) name h k m =
-      let here-too = k s (inl refl) in
+      let here_too = k s (inl refl) in
       turns_leave_record xs name h (λ x i. k x (inr i)) (turn t f s m)
-      ∙ records_step_alone.others s (branch_now t f s m.places) (wait_now t f s m) m name h here-too.0 here-too.1
+      ∙ records_step_alone.others s (branch_now t f s m.places) (wait_now t f s m) m name h here_too.0 here_too.1
 
   turns_length : (xs : List StatementRow) (m : Memory) → length (turns t f xs m).waits ≡ length m.waits
   turns_length [] m = refl

@@ -61,8 +61,8 @@ ShownAlike (Some f) None i = ⊥
 ShownAlike (Some f) (Some g) i = slice_index_or (cells_shown f) i false ≡ slice_index_or (cells_shown g) i false
 
 -- a cell holds its own run's last accepted frame's value in both runs, or one value in both
-abbrev pub OwnOrOne : Option (List ℕ) → Option (List ℕ) → (cells cells-too : List Bool) → ℕ → Type 0
-OwnOrOne f g cells cells-too i = (Own f cells i × Own g cells-too i) ⊎ (slice_index_or cells i false ≡ slice_index_or cells-too i false)
+abbrev pub OwnOrOne : Option (List ℕ) → Option (List ℕ) → (cells cells_too : List Bool) → ℕ → Type 0
+OwnOrOne f g cells cells_too i = (Own f cells i × Own g cells_too i) ⊎ (slice_index_or cells i false ≡ slice_index_or cells_too i false)
 
 -- After a call of each of two runs, where f and g are the frames that they accepted last.
 pub record Agree (f g : Option (List ℕ)) (m n : Moment) : Type 0 where

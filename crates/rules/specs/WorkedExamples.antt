@@ -35,7 +35,7 @@ pub record WorkedExamples : Type 0 where
   -- the empty document is 2 at 0; a document is one statement, without its last byte 1 at 4, with 58 for 45 it is 4 at 11
   pub documents : DocumentsAreReadAsWritten
   -- its scan with only output cell 1 ON leaves output cells 1 and 160 ON, and no other cell
-  pub one-statement-scanned :
+  pub one_statement_scanned :
       indices_on 0 (cells_of (after_scans (phase_two_green ∷ []) (fresh its_table))) ≡ (input_cells + 1) ∷ (input_cells + 160) ∷ []
   -- a ring timer at 20 tenths IS 2 seconds
   pub timer_is : truth (view (unplanned []) (timer_at 20) (as_shown (timer_at 20))) (timer Is 2) ≡ true
@@ -45,7 +45,7 @@ pub record WorkedExamples : Type 0 where
   -- with A ON and B and C OFF, A OR B AND C is OFF
   pub joined_from_the_top : holds (view (unplanned []) quiet_frame only_flag_one) one_or_two_and_three ≡ false
   -- with phase 16 alone green, phase green 0 IS OFF fails
-  pub whole-family-off :
+  pub whole_family_off :
       truth (view (unplanned []) phase_sixteen_green (as_shown phase_sixteen_green)) (MemberIs (record { family = PhaseGreen; number = 0 }) Off) ≡ false
   -- the timer passes 5 seconds in the second scan; the output comes ON in the fifth, and not before
   pub not_in_the_first : output_after timer_starts_a_delay (timer_at 51 ∷ []) ≡ false

@@ -7,7 +7,7 @@ ghost use Rattle.tables.specs.Lists.{every, member};
 ghost use Rattle.tables.specs.Rows.{name_number, statement_row, plan_row};
 ghost use Rattle.tables.specs.Rules.{statement_keeps};
 ghost use Rattle.rules.specs.Frames.{frame_bytes};
-ghost use Rattle.rules.specs.Enabling.{plan_lists, enabled as enabled-by, enabled_count, name_enabled};
+ghost use Rattle.rules.specs.Enabling.{plan_lists, enabled as enabled_by, enabled_count, name_enabled};
 ghost use Rattle.scanning.specs.EnabledNames.{is_there, EnabledBy};
 
 use crate::frame::number_shown;
@@ -51,7 +51,7 @@ fn is_planned(plans: &[Plan], number: u16, name: Name) -> bool
 
 // Whether a statement is enabled while a plan is in effect.
 fn is_enabled(plans: &[Plan], plan: u16, statement: &Statement) -> bool
-    ensures { result ≡ enabled-by (map plan_row plans.now) (record { plan = plan }) (statement_row statement.now) }
+    ensures { result ≡ enabled_by (map plan_row plans.now) (record { plan = plan }) (statement_row statement.now) }
 {
     match statement.mark {
         Mark::Enabled => true,

@@ -1,7 +1,7 @@
 // Whether the tests of a statement hold. Nothing here can set a cell: a store is only read.
 ghost use Rattle.std.specs.Prelude.{◌≡◌, Bool, length};
 ghost use Rattle.rules.specs.Frames.{frame_bytes, number_shown};
-ghost use Rattle.rules.specs.Testing.{in_state, compared_as, compares, seen, truth as truth-of, joined as joined_to, holds as holds-in};
+ghost use Rattle.rules.specs.Testing.{in_state, compared_as, compares, seen, truth as truth_of, joined as joined_to, holds as holds_in};
 ghost use Rattle.memory.specs.Flags.{places_of};
 ghost use Rattle.scanning.specs.EnabledNames.{is_there};
 
@@ -67,7 +67,7 @@ fn truth<S: CellStore>(
     flags: &FlagTable,
 ) -> bool
     requires { length frame.now ≡ frame_bytes }
-    ensures { result ≡ truth-of (seen frame.now (is_there enabled.now) (places_of (S.cells store.now) flags.now)) test }
+    ensures { result ≡ truth_of (seen frame.now (is_there enabled.now) (places_of (S.cells store.now) flags.now)) test }
 {
     match test {
         Test::PlaceIs(place, state) => is_in(state, is_place_on(store, flags, place)),
@@ -99,7 +99,7 @@ pub fn holds<S: CellStore>(
     flags: &FlagTable,
 ) -> bool
     requires { length frame.now ≡ frame_bytes }
-    ensures { result ≡ holds-in (seen frame.now (is_there enabled.now) (places_of (S.cells store.now) flags.now)) tests.now }
+    ensures { result ≡ holds_in (seen frame.now (is_there enabled.now) (places_of (S.cells store.now) flags.now)) tests.now }
 {
     let mut above = false;
     for t in tests {

@@ -4,9 +4,9 @@ ghost use Rattle.tables.specs.Lists.{every};
 ghost use Rattle.tables.specs.Rows.{TableRows, statement_row};
 ghost use Rattle.tables.specs.Rules.{statement_keeps};
 ghost use Rattle.rules.specs.Frames.{frame_bytes};
-ghost use Rattle.rules.specs.Testing.{seen, holds as holds-in};
+ghost use Rattle.rules.specs.Testing.{seen, holds as holds_in};
 ghost use Rattle.rules.specs.Acting.{written_at, after_writes};
-ghost use Rattle.rules.specs.Scanning.{branch_by, actions as actions-of, turn, turns};
+ghost use Rattle.rules.specs.Scanning.{branch_by, actions as actions_of, turn, turns};
 ghost use Rattle.memory.specs.Flags.{places_of};
 ghost use Rattle.scanning.specs.EnabledNames.{is_there, NamesOf, OwnNameOf, EnabledBy};
 ghost use Rattle.scanning.specs.Memories.{memory_of};
@@ -31,7 +31,7 @@ fn branch_now<S: CellStore>(
 ) -> Branch
     requires { length frame.now ≡ frame_bytes }
     ensures { result ≡ branch_by (is_there enabled.now (statement_row statement.now).name)
-        (holds-in (seen frame.now (is_there enabled.now) (places_of (S.cells store.now) flags.now)) (statement_row statement.now).tests) }
+        (holds_in (seen frame.now (is_there enabled.now) (places_of (S.cells store.now) flags.now)) (statement_row statement.now).tests) }
 {
     if !enabled.contains(statement.name) {
         return Branch::Neither;
@@ -53,7 +53,7 @@ fn act_branch<S: CellStore>(
 )
     requires { statement_keeps (statement_row statement.now) ≡ true }
     ensures { places_of (S.cells store.new) flags.new
-        ≡ after_writes (written_at count.0 (actions-of (statement_row statement.now) branch)) (places_of (S.cells store.old) flags.old) }
+        ≡ after_writes (written_at count.0 (actions_of (statement_row statement.now) branch)) (places_of (S.cells store.old) flags.old) }
 {
     match branch {
         Branch::Neither => {}

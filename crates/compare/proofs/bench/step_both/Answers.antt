@@ -1,4 +1,4 @@
-use Rattle.std.proofs.Common.{◌≡◌, subst}
+use Rattle.std.proofs.Common.{subst}
 use Rattle.rules.specs.Calls.{Rule}
 use Rattle.rules.specs.Reordering.{answered}
 use Rattle.rules.specs.Runs.{last_frame}

@@ -1,4 +1,4 @@
-use Rattle.std.proofs.Common.{◌≡◌, Bool, Decides, sym, ap, ◌∙◌, subst}
+use Rattle.std.proofs.Common.{Decides, sym, ◌∙◌, subst}
 use Rattle.rules.specs.RunsAlike.{OwnOrOne}
 use Rattle.compare.proofs.CellsAlike.{decides_either, decides_as, read_on, own_as, as_own}
 use Rattle.compare.proofs.cells_alike.is_cell_alike.Goals as goal

@@ -1,4 +1,4 @@
-use Rattle.std.proofs.Common.{◌≡◌, sym, ap, ◌∙◌, subst₂}
+use Rattle.std.proofs.Common.{sym, ◌∙◌, subst₂}
 use mathlib.Core.Bool.{false≢true}
 use Rattle.rules.specs.RunsAlike.{OwnOrOne}
 use Rattle.compare.proofs.difference.difference.Goals as goal
