@@ -9,7 +9,7 @@ use Rattle.cells.specs.Bits.{bit}
 use Rattle.cells.specs.Cells.{all_cells, cell_bytes, buffer_cells, first_cell, at_position, state_when, packed_cell, image, taken, held}
 use Rattle.cells.specs.Readings.{within, first_byte, frame_state}
 use Rattle.cells.proofs.Positions.{code_inside}
-use Rattle.cells.specs.Tables.{getD_tabulated}
+use Rattle.cells.proofs.Tables.{get_or_tabulated}
 
 -- a buffer begins at a byte, so a cell's byte and bit are those of its code, from that byte on
 first_whole : (buffer : Buffer) (code : ℕ)
@@ -27,7 +27,7 @@ packed_in_buffer bytes buffer code =
 -- a cell of an image reads its bit of the bytes, and past the end OFF
 reads_where : (t : Bool) (bytes : List ℕ) (i : ℕ) (s : State) → (t ≡ true → i < all_cells) → state_when (packed_cell bytes i) ≡ s
     → state_when (at_position (image bytes) (cond t (Some i) None)) ≡ cond t s Off
-reads_where true bytes i s h e = ap state_when (getD_tabulated all_cells (packed_cell bytes) i false (h refl)) ∙ e
+reads_where true bytes i s h e = ap state_when (get_or_tabulated all_cells (packed_cell bytes) i false (h refl)) ∙ e
 reads_where false bytes i s h e = refl
 
 pub image_reads : (bytes : List ℕ) (buffer : Buffer) (code : ℕ)

@@ -1,4 +1,5 @@
 pub mod SingleBits
+pub mod Tables
 pub mod Positions
 pub mod Overlays
 pub mod Frames

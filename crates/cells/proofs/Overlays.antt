@@ -7,7 +7,7 @@ use Rattle.tables.specs.declared.place.State.TheVariants.{Off, On}
 use Rattle.cells.specs.declared.masks.Masks.{Masks}
 use Rattle.cells.specs.Cells.{all_cells, cleared, is_on, state_when, at_position, set_position}
 use Rattle.cells.specs.Masks.{on_mask, off_mask, forced_or, forced_to, overlaid, opposite_of, InOneMask}
-use Rattle.cells.specs.Tables.{tabulated_from, tabulated_set, getD_tabulated, get_d_set}
+use Rattle.cells.proofs.Tables.{tabulated_from, tabulated_set, get_or_tabulated, get_or_set}
 use Rattle.cells.proofs.Positions.{Inside}
 
 -- nothing stands anywhere in a list of nothing
@@ -46,8 +46,8 @@ overlaid_set on off own l m None h state = refl
 overlaid_set on off own l m (Some i) h state =
     tabulated_set all_cells _ _ i (is_on state) h
     (λ j k. let in_on : i < length on = omega (arith, l, h) in let in-off : i < length off = omega (arith, m, h) in
-    let a = get_d_set on i j (is_on state) false in_on in
-    let b = get_d_set off i j (is_on (opposite_of state)) false in-off in
+    let a = get_or_set on i j (is_on state) false in_on in
+    let b = get_or_set off i j (is_on (opposite_of state)) false in-off in
     rw (a, b) (one_mask (eqb j i) state (get_or on j false) (get_or off j false) (get_or own j false)))
 
 -- such a cell is in one mask alone
@@ -64,15 +64,15 @@ pub apart_set : (on off : List Bool) → length on ≡ all_cells → length off 
 apart_set on off l m None h state a i = a i
 apart_set on off l m (Some k) h state a i =
     let in_on : k < length on = omega (arith, l, h) in let in-off : k < length off = omega (arith, m, h) in
-    let x = get_d_set on k i (is_on state) false in_on in
-    let y = get_d_set off k i (is_on (opposite_of state)) false in-off in
+    let x = get_or_set on k i (is_on state) false in_on in
+    let y = get_or_set off k i (is_on (opposite_of state)) false in-off in
     rw (x, y) (one_mask_apart (eqb i k) state (get_or on i false) (get_or off i false) (a i))
 
 -- what stands at a position under two masks
 pub overlaid_at : (on off own : List Bool) (p : Option ℕ) → Inside p
     → at_position (overlaid on off own) p ≡ forced_or (forced_to (at_position on p) (at_position off p)) (at_position own p)
 overlaid_at on off own None h = refl
-overlaid_at on off own (Some i) h = getD_tabulated all_cells _ i false h
+overlaid_at on off own (Some i) h = get_or_tabulated all_cells _ i false h
 
 -- a state by whether it is ON
 pub state_by : (state : State) (on : Bool) → is_on state ≡ on → state ≡ state_when on

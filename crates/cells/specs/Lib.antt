@@ -4,4 +4,3 @@ pub mod Cells
 pub mod Masks
 pub mod Forcing
 pub mod Readings
-pub mod Tables

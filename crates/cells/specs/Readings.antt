@@ -20,4 +20,4 @@ frame_state bytes buffer code = state_when (bit (slice_index bytes (first_byte b
 
 -- two cells are different: of different buffers, or of different codes
 abbrev pub Different : Buffer → ℕ → Buffer → ℕ → Type 0
-Different buffer code other-buffer other-code = buffer ≡ other-buffer → code ≢ other-code
+Different buffer code other_buffer other_code = buffer ≡ other_buffer → code ≢ other_code

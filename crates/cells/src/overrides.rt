@@ -3,7 +3,7 @@ ghost use Rattle.std.specs.Prelude.{◌≡◌};
 ghost use Rattle.cells.specs.Cells.{cleared, taken, held, written, is_on, all_cells};
 ghost use Rattle.cells.specs.Masks.{forced_state, forced_or};
 ghost use Rattle.cells.specs.Forcing.{forcing_cells, Emptied, Taken, Seen, Overridden};
-ghost use Rattle.cells.specs.Tables.{length_tabulated};
+ghost use Rattle.cells.specs.Tabulated.{length_tabulated};
 
 use crate::forcing::ForcingStore;
 use crate::masks::Masks;

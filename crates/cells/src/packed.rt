@@ -1,7 +1,7 @@
 // The packed image: the cell bytes themselves.
 ghost use Rattle.std.specs.Prelude.{◌≡◌};
 ghost use Rattle.cells.specs.Cells.{image, cleared, all_cells};
-ghost use Rattle.cells.specs.Tables.{length_tabulated};
+ghost use Rattle.cells.specs.Tabulated.{length_tabulated};
 
 use crate::bits::{cell, put_cell};
 use crate::layout::{CELL_BYTES, position};

@@ -10,7 +10,7 @@ use Rattle.tables.specs.Limits.{last_flag, counted_to}
 use Rattle.tables.specs.Refusals.{told}
 use Rattle.tables.specs.Rows.{StatementRow, TableRows}
 use Rattle.cells.specs.Cells.{all_cells, cell_bytes, packed_cell, cell_position, at_position}
-use Rattle.cells.specs.Tables.{length_tabulated}
+use Rattle.cells.specs.Tabulated.{length_tabulated}
 use Rattle.rules.specs.Frames.{frame_bytes, is_frame, cells_shown, setting}
 use Rattle.rules.specs.Memory.{Places, in_flags, nowhere, cell_location, on_at, place_on, Memory}
 use Rattle.rules.specs.Enabling.{enabled, enabled_count, name_enabled}

@@ -1,6 +1,6 @@
 use Rattle.std.proofs.Common.{◌∙◌}
 use Rattle.cells.specs.Cells.{all_cells}
-use Rattle.cells.specs.Tables.{length_tabulated}
+use Rattle.cells.specs.Tabulated.{length_tabulated}
 use Rattle.cells.proofs.Overlays.{apart_from_cleared, overlaid_from_cleared}
 use Rattle.cells.proofs.overrides.ForcingStoreCellStore.clear.Goals as goal
 

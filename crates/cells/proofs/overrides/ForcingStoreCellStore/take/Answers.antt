@@ -1,6 +1,6 @@
 use Rattle.std.proofs.Common.{eqb, length}
 use Rattle.cells.specs.Cells.{all_cells, cell_bytes}
-use Rattle.cells.specs.Tables.{length_tabulated}
+use Rattle.cells.specs.Tabulated.{length_tabulated}
 use Rattle.cells.proofs.Overlays.{apart_from_taken, overlaid_from_taken}
 use Rattle.cells.proofs.overrides.ForcingStoreCellStore.take.Goals as goal
 

@@ -1,6 +1,6 @@
 use Rattle.std.proofs.Common.{refl}
 use Rattle.cells.specs.Cells.{all_cells, cell_position}
-use Rattle.cells.specs.Tables.{length_tabulated}
+use Rattle.cells.specs.Tabulated.{length_tabulated}
 use Rattle.cells.proofs.Positions.{position_inside}
 use Rattle.cells.proofs.Overlays.{apart_from_set, overlaid_from_set, one_from_set}
 use Rattle.cells.proofs.overrides.ForcingStoreCellStore.write.Goals as goal

@@ -1,6 +1,6 @@
 use Rattle.std.proofs.Common.{ℕ, Bool, set, Option, ap, ◌∙◌}
 use Rattle.cells.specs.Cells.{all_cells, packed_cell, is_on, image, set_position}
-use Rattle.cells.specs.Tables.{tabulated_set}
+use Rattle.cells.proofs.Tables.{tabulated_set}
 use Rattle.cells.proofs.packed.PackedImageCellStore.write.Goals as goal
 
 pub returns-in-Some : goal.returns-in-Some
