@@ -5,6 +5,7 @@
 ghost use Rattle.std.specs.Prelude.{◌≡◌, ◌≤◌, min, [], ◌∷◌, ◌++◌, length, slice_set};
 ghost use Rattle.bounded.specs.Held.{held, Pushed};
 
+// An array with a length beside it, since no list here may use a heap; the kit's `ArrayVec` is not `Copy`, and its copies can fail.
 #[derive(Clone, Copy)]
 pub struct BoundedList<T, const N: usize> {
     items: [T; N],
@@ -50,8 +51,7 @@ impl<T: Copy, const N: usize> BoundedList<T, N> {
         ensures bound { length result.now ≤ N }
     {
         let n = self.filled();
-        let all = &self.items[..];
-        &all[0..n]
+        &self.items[..n]
     }
 
     /// How many items there are.

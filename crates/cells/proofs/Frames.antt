@@ -1,11 +1,10 @@
 -- Cells in the bytes of their buffer.
-use Rattle.std.proofs.Common.{◌≡◌, ℕ, ◌+◌, ◌/◌, ◌%◌, ◌<◌, Bool, true, false, cond, eqb, ltb, List, length, get_or, Some, None, refl, ap, ◌∙◌, arith}
-use Rattle.std.proofs.lemmas.Bool.{cond-true, eq-eqb}
+use Rattle.std.proofs.Common.{◌≡◌, ℕ, ◌+◌, ◌/◌, ◌%◌, ◌<◌, Bool, true, false, cond, ltb, List, length, Some, None, refl, arith}
+use Rattle.std.proofs.lemmas.Bool.{eq-eqb}
 use Rattle.tables.specs.declared.place.Buffer.{Buffer}
 use Rattle.tables.specs.declared.place.Buffer.TheVariants.{Input, Output}
 use Rattle.tables.specs.declared.place.State.{State}
 use Rattle.tables.specs.declared.place.State.TheVariants.{Off}
-use Rattle.cells.specs.Bits.{bit}
 use Rattle.cells.specs.Cells.{all_cells, cell_bytes, buffer_cells, first_cell, at_position, state_when, packed_cell, image, taken, held}
 use Rattle.cells.specs.Readings.{within, first_byte, frame_state}
 use Rattle.cells.proofs.Positions.{code_inside}
@@ -20,14 +19,12 @@ first_whole Output code = (omega arith, omega arith)
 packed_in_buffer : (bytes : List ℕ) (buffer : Buffer) (code : ℕ)
     → state_when (packed_cell bytes (first_cell buffer + code)) ≡ frame_state bytes buffer code
 packed_in_buffer bytes buffer code =
-    let w = first_whole buffer code in
-    ap (λ (k : ℕ). state_when (bit (get_or bytes k 0) ((first_cell buffer + code) % 8))) w.0
-    ∙ ap (λ (k : ℕ). state_when (bit (get_or bytes (first_byte buffer + code / 8) 0) k)) w.1
+    let w = first_whole buffer code in rw (w.0, w.1)
 
 -- a cell of an image reads its bit of the bytes, and past the end OFF
 reads_where : (t : Bool) (bytes : List ℕ) (i : ℕ) (s : State) → (t ≡ true → i < all_cells) → state_when (packed_cell bytes i) ≡ s
     → state_when (at_position (image bytes) (cond t (Some i) None)) ≡ cond t s Off
-reads_where true bytes i s h e = ap state_when (get_or_tabulated all_cells (packed_cell bytes) i false (h refl)) ∙ e
+reads_where true bytes i s h e = let within = h refl in rw get_or_tabulated e
 reads_where false bytes i s h e = refl
 
 pub image_reads : (bytes : List ℕ) (buffer : Buffer) (code : ℕ)
@@ -39,5 +36,4 @@ image_reads bytes buffer code =
 pub taken_reads : (cells : List Bool) (bytes : List ℕ) (buffer : Buffer) (code : ℕ) → length bytes ≡ cell_bytes
     → held (taken cells bytes) buffer code ≡ within buffer code (frame_state bytes buffer code)
 taken_reads cells bytes buffer code whole =
-    let now-image = cond-true (eqb (length bytes) cell_bytes) (image bytes) cells (eq-eqb (length bytes) cell_bytes whole) in
-    ap (λ (now-held : List Bool). held now-held buffer code) now-image ∙ image_reads bytes buffer code
+    rw (eq-eqb (length bytes) cell_bytes whole) (image_reads bytes buffer code)

@@ -1,3 +1,4 @@
+pub mod States
 pub mod SingleBits
 pub mod Tables
 pub mod Positions

@@ -1,11 +1,11 @@
 -- The cells of a store, and what each operation makes of them. A store's cells are one list, true for ON: those of the input
 -- buffer by their codes, then those of the output buffer.
-use Rattle.std.specs.Prelude.{ℕ, ◌+◌, ◌/◌, ◌%◌, Bool, true, false, cond, List, length, replicate, Some, None, Option, ◌==◌, nat_lt, slice_index, slice_index_or, slice_set}
+use Rattle.std.specs.Prelude.{ℕ, ◌+◌, ◌/◌, ◌%◌, Bool, false, cond, List, length, replicate, Some, None, Option, ◌==◌, nat_lt, slice_index, slice_index_or, slice_set}
 use Rattle.tables.specs.Limits.{input_cells, output_cells}
 use Rattle.tables.specs.declared.place.Buffer.{Buffer}
 use Rattle.tables.specs.declared.place.Buffer.TheVariants.{Input, Output}
 use Rattle.tables.specs.declared.place.State.{State}
-use Rattle.tables.specs.declared.place.State.TheVariants.{Off, On}
+pub use Rattle.tables.specs.States.{is_on, state_when}
 use Rattle.cells.specs.Bits.{bit}
 use Rattle.cells.specs.Tabulated.{tabulated}
 
@@ -16,16 +16,6 @@ all_cells = input_cells + output_cells
 -- the bytes that hold them, eight cells to a byte
 abbrev pub cell_bytes : ℕ
 cell_bytes = all_cells / 8
-
--- whether a state is ON
-abbrev pub is_on : State → Bool
-is_on Off = false
-is_on On = true
-
--- the state that is ON or not
-abbrev pub state_when : Bool → State
-state_when false = Off
-state_when true = On
 
 -- how many cells a buffer has
 abbrev pub buffer_cells : Buffer → ℕ

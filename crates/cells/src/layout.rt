@@ -1,7 +1,8 @@
 // How many cells there are, and where each stands among them: the input buffer's first, then the output buffer's.
-ghost use Rattle.std.specs.Prelude.{◌≡◌, ◌<◌, IfSome};
-ghost use Rattle.cells.specs.Cells.{all_cells, cell_position, buffer_cells, first_cell};
+ghost use Rattle.std.specs.Prelude.{◌≡◌, ℕ, ◌<◌};
+ghost use Rattle.cells.specs.Cells.{all_cells, cell_position};
 
+use std::marker::Model;
 use tables::limits::{INPUT_CELLS, OUTPUT_CELLS};
 use tables::place::Buffer;
 
@@ -11,34 +12,62 @@ pub const CELLS: usize = INPUT_CELLS as usize + OUTPUT_CELLS as usize;
 /// The bytes that hold them, eight cells to a byte: 168.
 pub const CELL_BYTES: usize = CELLS / 8;
 
-// How many cells a buffer has.
-fn size(buffer: Buffer) -> u16
-    ensures { result ≡ buffer_cells buffer }
-{
-    match buffer {
-        Buffer::Input => INPUT_CELLS,
-        Buffer::Output => OUTPUT_CELLS,
-    }
+/// Where one of the cells stands among all of them.
+#[derive(Clone, Copy, PartialEq, Eq)]
+pub struct Position {
+    index: u16,
 }
 
-// Where a buffer's cells begin.
-fn first(buffer: Buffer) -> u16
-    ensures { result ≡ first_cell buffer }
-{
-    match buffer {
-        Buffer::Input => 0,
-        Buffer::Output => INPUT_CELLS,
-    }
+impl Model for Position {
+    ghost Value = { ℕ };
+
+    ghost view = { λ position. position.index };
+
+    ghost invariant = { λ position. position.index < all_cells };
+
+    ghost inverse = { λ index. record { index = index } };
 }
 
-/// Where the cell of a code stands, or none for a code past its buffer's end.
-pub fn position(buffer: Buffer, code: u16) -> Option<usize>
-    ensures place { result ≡ cell_position buffer code }
-    ensures inside { IfSome result (λ at. at < all_cells) }
-{
-    if code < size(buffer) {
-        Some((first(buffer) + code) as usize)
-    } else {
-        None
+impl Position {
+    /// Where the cell of a code stands, or none for a code past its buffer's end.
+    pub fn of(buffer: Buffer, code: u16) -> Option<Position>
+        ensures { result ≡ cell_position buffer code }
+    {
+        match buffer {
+            Buffer::Input if code < INPUT_CELLS => Some(Position { index: code }),
+            Buffer::Output if code < OUTPUT_CELLS => Some(Position {
+                index: INPUT_CELLS + code,
+            }),
+            _ => None,
+        }
+    }
+
+    /// The position that has so many cells before it.
+    pub fn nth(index: usize) -> Position
+        requires { index < all_cells }
+        ensures { result ≡ index }
+    {
+        Position {
+            index: index as u16,
+        }
+    }
+
+    /// How many cells stand before it.
+    pub fn index(self) -> usize
+        ensures value { result ≡ self }
+        ensures inside { result < all_cells }
+    {
+        usize::from(self.index)
+    }
+
+    /// The buffer and the code of the cell there.
+    pub fn cell(self) -> (Buffer, u16)
+        ensures { cell_position result.0 result.1 ≡ Some self }
+    {
+        if self.index < INPUT_CELLS {
+            (Buffer::Input, self.index)
+        } else {
+            (Buffer::Output, self.index - INPUT_CELLS)
+        }
     }
 }

@@ -6,8 +6,6 @@ mod bits;
 pub mod forcing;
 pub mod layout;
 mod masks;
-pub mod overrides;
 pub mod packed;
 pub mod readings;
-pub mod states;
 pub mod store;

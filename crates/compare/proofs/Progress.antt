@@ -1,6 +1,7 @@
 -- One step more of two runs.
-use Rattle.std.proofs.Common.{◌≡◌, ℕ, List, [], ◌∷◌, ◌++◌, map, length, Some, None, Ok, Option, sym, refl, ap, ◌∙◌, subst, ap₂, subst₂, append_assoc}
-use Rattle.std.proofs.lemmas.List.{map_push, length-map}
+use Rattle.std.proofs.Common.{◌≡◌, ℕ, ◌+◌, ◌<◌, ◌≤◌, List, get_or, take, arith, [], ◌∷◌, ◌++◌, map, length, Some, None, Ok, Option, sym, refl, ap, ◌∙◌, subst, subst₂, append_assoc}
+use Rattle.std.specs.Option.{option_or, option_map}
+use Rattle.std.proofs.lemmas.List.{map_push, length-map, length-take-le, take_more, take_all}
 use Rattle.tables.specs.Rows.{TableRows}
 use Rattle.documents.specs.Documents.{reading}
 use Rattle.documents.proofs.Accepting.{accepted_tables_keep_the_rules}
@@ -10,13 +11,12 @@ use Rattle.rules.specs.Runs.{Moment, calls, Run, end_of, CallsAlike, last_frame,
 use Rattle.rules.specs.RunsAlike.{AgreeAlong}
 use Rattle.rules.proofs.Related.{Related, tables_alike, related_fresh}
 use Rattle.rules.proofs.RunsAlike.{shown_alike, related_end, rearranged_tables_run_alike}
-use Rattle.compare.specs.declared.step.Step.{Step}
 use Rattle.compare.specs.declared.kind.Kind.{Kind}
 use Rattle.compare.specs.declared.kind.Kind.TheVariants.{Answer, Flag, WaitRecord, Cell}
 use Rattle.compare.specs.declared.kind.Difference.{Difference}
-use Rattle.compare.specs.Steps.{first_call, second_call}
-use Rattle.compare.specs.Differences.{FoundAt, NothingFound, FirstDifference, either_found}
-use Rattle.compare.specs.Comparing.{Compared, AlikeThroughout}
+use Rattle.compare.specs.Steps.{Step, first_call, second_call}
+use Rattle.compare.specs.Differences.{FoundAt, NothingFound, FirstDifference}
+use Rattle.compare.specs.Comparing.{Stepped, Compared, AlikeThroughout}
 
 -- ---- one moment more at the end of a run
 
@@ -41,6 +41,10 @@ nothing_more f g (x ∷ ms) [] m n h k = absurd h
 nothing_more f g (x ∷ ms) (y ∷ ns) m n h k = (h.0, nothing_more (last_frame f x.call) (last_frame g y.call) ms ns m n h.1 k)
 
 -- ---- the first difference, one step later
+
+-- the difference found before, else the one of this step
+abbrev pub either_found : Option Difference → (step : ℕ) → Option Kind → Option Difference
+either_found found step kind = option_or found (option_map (λ k. record { step = step; kind = k }) kind)
 
 first_more : (ms ns : List Moment) (m n : Moment) (found : Option Difference) (kind : Option Kind) → FirstDifference ms ns found
     → FoundAt (last_frame (last_of None ms) m.call) (last_frame (last_of None ns) n.call) m n kind
@@ -81,8 +85,9 @@ pub record SoFar (t u : TableRows) (steps : List Step) (f g : Option (List ℕ))
   pub frame : last_of None compared.here ≡ f
   pub frame_too : last_of None compared.there ≡ g
 
-pub none_so_far : (t u : TableRows) (a b : ProcessorState) → a ≡ fresh t → b ≡ fresh u → SoFar t u [] None None a b None
-none_so_far t u a b p q = record {
+pub none_so_far : (t u : TableRows) (f g : Option (List ℕ)) (a b : ProcessorState) → f ≡ None → g ≡ None → a ≡ fresh t → b ≡ fresh u
+    → SoFar t u [] f g a b None
+none_so_far t u f g a b n m p q = record {
   compared = record {
     here = [];
     there = [];
@@ -94,39 +99,57 @@ none_so_far t u a b p q = record {
     ends_too = sym q;
     first = tt;
   };
-  frame = refl;
-  frame_too = refl;
+  frame = sym n;
+  frame_too = sym m;
 }
 
 -- as many calls as steps
 calls_length : (ms : List Moment) (cs : List Call) → calls ms ≡ cs → length ms ≡ length cs
 calls_length ms cs e = sym (length-map ms (λ (m : Moment). m.call)) ∙ ap length e
 
-module _ (t u : TableRows) (done : List Step) (step : Step) (f g : Option (List ℕ)) (a b : ProcessorState) (found : Option Difference) (s : SoFar t u done f g a b found) where
-  pub one_more : (m n : Moment) (kind : Option Kind) → m.call ≡ first_call step → n.call ≡ second_call step → m.before ≡ a → n.before ≡ b
-      → Rule m.call m.before m.answer m.after → Rule n.call n.before n.answer n.after
-      → FoundAt (last_frame f m.call) (last_frame g n.call) m n kind
-      → SoFar t u (done ++ step ∷ []) (last_frame f m.call) (last_frame g n.call) m.after n.after (either_found found (length done) kind)
-  one_more m n kind mc nc mb nb rm rn k =
-      let c = s.compared in
-      let count : length c.here ≡ length done = calls_length c.here (map first_call done) c.made ∙ length-map done first_call in
-      record {
-        compared = record {
-          here = c.here ++ m ∷ [];
-          there = c.there ++ n ∷ [];
-          run = run_more (fresh t) c.here m c.run (c.ends ∙ sym mb) rm;
-          run_too = run_more (fresh u) c.there n c.run_too (c.ends_too ∙ sym nb) rn;
-          made = map_push (λ (x : Moment). x.call) c.here m ∙ ap₂ (λ cs x. cs ++ x ∷ []) c.made mc ∙ sym (map_push first_call done step);
-          made_too = map_push (λ (x : Moment). x.call) c.there n ∙ ap₂ (λ cs x. cs ++ x ∷ []) c.made_too nc ∙ sym (map_push second_call done step);
-          ends = end_more (fresh t) c.here m;
-          ends_too = end_more (fresh u) c.there n;
-          first = subst (λ i. FirstDifference (c.here ++ m ∷ []) (c.there ++ n ∷ []) (either_found found i kind)) count
-              (first_more c.here c.there m n found kind c.first
-              (subst₂ (λ p q. FoundAt (last_frame p m.call) (last_frame q n.call) m n kind) (sym s.frame) (sym s.frame_too) k));
-        };
-        frame = last_more None c.here m ∙ ap (λ p. last_frame p m.call) s.frame;
-        frame_too = last_more None c.there n ∙ ap (λ p. last_frame p n.call) s.frame_too;
-      }
+-- one step more
+one_more : {t u : TableRows} {done : List Step} {step : Step} {f g f' g' : Option (List ℕ)} {a b a' b' : ProcessorState} {found : Option Difference}
+    {kind : Option Kind} → SoFar t u done f g a b found → Stepped f g step a b a' b' f' g' kind
+    → SoFar t u (done ++ step ∷ []) f' g' a' b' (either_found found (length done) kind)
+one_more {t} {u} {done} {step} {f} {g} {f'} {g'} {a} {b} {a'} {b'} {found} {kind} so_far made =
+    let c = so_far.compared in
+    let m : Moment = record { call = first_call step; answer = made.answer; before = a; after = a' } in
+    let n : Moment = record { call = second_call step; answer = made.answer_too; before = b; after = b' } in
+    let count : length c.here ≡ length done = calls_length c.here (map first_call done) c.made ∙ length-map done first_call in
+    let frame : f' ≡ last_frame (last_of None c.here) m.call = made.frame ∙ ap (λ p. last_frame p m.call) (sym so_far.frame) in
+    let frame_too : g' ≡ last_frame (last_of None c.there) n.call = made.frame_too ∙ ap (λ p. last_frame p n.call) (sym so_far.frame_too) in
+    record {
+      compared = record {
+        here = c.here ++ m ∷ [];
+        there = c.there ++ n ∷ [];
+        run = run_more (fresh t) c.here m c.run c.ends made.rule;
+        run_too = run_more (fresh u) c.there n c.run_too c.ends_too made.rule_too;
+        made = map_push (λ (x : Moment). x.call) c.here m ∙ ap (λ cs. cs ++ m.call ∷ []) c.made ∙ sym (map_push first_call done step);
+        made_too = map_push (λ (x : Moment). x.call) c.there n ∙ ap (λ cs. cs ++ n.call ∷ []) c.made_too ∙ sym (map_push second_call done step);
+        ends = end_more (fresh t) c.here m;
+        ends_too = end_more (fresh u) c.there n;
+        first = subst (λ i. FirstDifference (c.here ++ m ∷ []) (c.there ++ n ∷ []) (either_found found i kind)) count
+            (first_more c.here c.there m n found kind c.first (subst₂ (λ p q. FoundAt p q m n kind) frame frame_too made.found));
+      };
+      frame = last_more None c.here m ∙ sym frame;
+      frame_too = last_more None c.there n ∙ sym frame_too;
+    }
+
+-- of a list of steps, one more
+pub step_more : (steps : List Step) (i : ℕ) (d : Step) {t u : TableRows} {f g f' g' : Option (List ℕ)} {a b a' b' : ProcessorState}
+    {found found' : Option Difference} {kind : Option Kind} → i < length steps → SoFar t u (take i steps) f g a b found
+    → Stepped f g (get_or steps i d) a b a' b' f' g' kind → found' ≡ either_found found i kind
+    → SoFar t u (take (i + 1) steps) f' g' a' b' found'
+step_more steps i d {t} {u} {f} {g} {f'} {g'} {a} {b} {a'} {b'} {found} {found'} {kind} within so_far made e =
+    let count : length (take i steps) ≡ i = length-take-le i steps (omega arith) in
+    subst₂ (λ xs r. SoFar t u xs f' g' a' b' r) (sym (take_more steps i d within)) (ap (λ k. either_found found k kind) count ∙ sym e)
+    (one_more so_far made)
+
+-- and when all are made
+pub all_made : (steps : List Step) (i : ℕ) {t u : TableRows} {f g : Option (List ℕ)} {a b a' b' : ProcessorState} {found : Option Difference}
+    → length steps ≤ i → SoFar t u (take i steps) f g a b found → a ≡ a' → b ≡ b' → Compared t u steps a' b' found
+all_made steps i {t} {u} {f} {g} {a} {b} {a'} {b'} {found} past so_far p q =
+    subst₂ (λ x y. Compared t u steps x y found) p q (subst (λ xs. Compared t u xs a b found) (take_all i steps past) so_far.compared)
 
 -- ---- rearranged tables
 

@@ -8,25 +8,22 @@ use Rattle.rules.specs.Reordering.{Answer}
 use Rattle.rules.specs.Calls.{ProcessorState, fresh, Rule}
 use Rattle.rules.specs.Runs.{Moment, calls, Run, end_of, CallsAlike, last_frame, last_of}
 use Rattle.rules.specs.RunsAlike.{cells_of, flags_of, waits_of, ShownAlike, OwnOrOne, AgreeAlong}
-use Rattle.compare.specs.declared.step.Step.{Step}
 use Rattle.compare.specs.declared.kind.Kind.{Kind}
 use Rattle.compare.specs.declared.kind.Difference.{Difference}
-use Rattle.compare.specs.declared.last_frame.LastFrame.{LastFrame}
 use Rattle.compare.specs.declared.bench.RefusedDocument.{RefusedDocument}
 use Rattle.compare.specs.declared.bench.RefusedDocument.TheVariants.{First, Second}
-use Rattle.compare.specs.Steps.{first_call, second_call}
-use Rattle.compare.specs.Shown.{Shows}
+use Rattle.compare.specs.Steps.{Step, first_call, second_call}
 use Rattle.compare.specs.Differences.{FoundAfter, FirstDifference}
 
--- One step in both: each call keeps its rule, the frames accepted last are kept, and what is found is what differs.
-pub record Stepped (f g : Option (List ℕ)) (step : Step) (a b a' b' : ProcessorState) (l l_too : LastFrame) (kind : Option Kind) : Type 0 where
+-- One step in both: each call keeps its rule, f' and g' are the frames accepted last after it, and what is found is what differs.
+pub record Stepped (f g : Option (List ℕ)) (step : Step) (a b a' b' : ProcessorState) (f' g' : Option (List ℕ)) (kind : Option Kind) : Type 0 where
   pub answer : Answer
   pub answer_too : Answer
   pub rule : Rule (first_call step) a answer a'
   pub rule_too : Rule (second_call step) b answer_too b'
-  pub frame : Shows l (last_frame f (first_call step))
-  pub frame_too : Shows l_too (last_frame g (second_call step))
-  pub found : FoundAfter (last_frame f (first_call step)) (last_frame g (second_call step)) answer answer_too a' b' kind
+  pub frame : f' ≡ last_frame f (first_call step)
+  pub frame_too : g' ≡ last_frame g (second_call step)
+  pub found : FoundAfter f' g' answer answer_too a' b' kind
 
 -- Two states of runs of rearranged tables, where f and g are the frames accepted last.
 pub record AlikeStates (f g : Option (List ℕ)) (a b : ProcessorState) : Type 0 where

@@ -52,9 +52,3 @@ pub record FirstOf (ms ns : List Moment) (d : Difference) : Type 0 where
 abbrev pub FirstDifference : (ms ns : List Moment) → Option Difference → Type 0
 FirstDifference ms ns None = NothingFound None None ms ns
 FirstDifference ms ns (Some d) = FirstOf ms ns d
-
--- the difference found before, else the one of this step
-abbrev pub either_found : Option Difference → (step : ℕ) → Option Kind → Option Difference
-either_found (Some d) step kind = Some d
-either_found None step None = None
-either_found None step (Some kind) = Some (record { step = step; kind = kind })

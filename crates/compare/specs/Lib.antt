@@ -1,4 +1,5 @@
 pub mod Steps
-pub mod Shown
+pub mod Frames
+pub mod Sides
 pub mod Differences
 pub mod Comparing

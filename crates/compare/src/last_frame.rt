@@ -1,60 +1,61 @@
-// The cells that the last accepted frame of a run showed.
-ghost use Rattle.std.specs.Prelude.{◌≡◌, ℕ, List, Some, None, Decides, Option};
-ghost use Rattle.cells.specs.Cells.{is_on, cell_position};
-ghost use Rattle.rules.specs.Runs.{last_frame, kept_frame};
+// The frame that a run accepted last.
+ghost use Rattle.std.specs.Prelude.{◌≡◌, length, None, option_map};
+ghost use Rattle.std.specs.Option.{ForSome};
+ghost use Rattle.cells.specs.Cells.{image};
+ghost use Rattle.rules.specs.Frames.{frame_bytes, cells_shown};
+ghost use Rattle.rules.specs.Runs.{last_frame};
 ghost use Rattle.compare.specs.Steps.{call_meant};
-ghost use Rattle.compare.specs.Shown.{Shows, ShownAs};
 
 use crate::step::Call;
 use cells::layout::CELL_BYTES;
 use cells::packed::PackedImage;
-use cells::states::is_on;
 use cells::store::CellStore;
 use scanning::frame::FRAME_BYTES;
-use tables::place::{Buffer, State};
 
-/// Whether a frame was accepted, and the cells that the last one showed.
-#[derive(Drop)]
-pub(crate) struct LastFrame {
-    accepted: bool,
-    image: PackedImage,
+// The bytes of a frame, not a `Frame`: a struct that holds one beside a `&mut` cannot be given by value.
+/// The frame that a run accepted last, if it accepted one.
+#[derive(Clone, Copy)]
+pub(crate) struct LastFrame<'a> {
+    frame: Option<&'a [u8]>,
+    ghost whole: { ForSome frame (λ f. length f.now ≡ frame_bytes) },
 }
 
-impl LastFrame {
+impl<'a> LastFrame<'a> {
+    ghost use Rattle.compare.specs.Frames.{frame_of};
+
     // No frame yet.
     pub(crate) fn none() -> Self
-        ensures { Shows result None }
+        ensures { frame_of result ≡ None }
     {
-        LastFrame {
-            accepted: false,
-            image: PackedImage::new(),
-        }
-    }
-
-    // Keeps the cells of a frame that is accepted.
-    fn keep(&mut self, frame: &[u8])
-        ensures { (f : Option (List ℕ)) → Shows self.old f → Shows self.new (kept_frame f frame.now) }
-    {
-        if frame.len() == FRAME_BYTES {
-            let (cell_bytes, _) = frame.split_at(CELL_BYTES);
-            self.image.take(cell_bytes);
-            self.accepted = true;
-        }
+        LastFrame { frame: None }
     }
 
     // After a call of the run.
-    pub(crate) fn note(&mut self, call: Call)
-        ensures { (f : Option (List ℕ)) → Shows self.old f → Shows self.new (last_frame f (call_meant call.entry)) }
+    pub(crate) fn note(&mut self, call: Call<&'a [u8]>)
+        ensures { frame_of self.new ≡ last_frame (frame_of self.old) (call_meant call.entry) }
     {
-        if let Call::Scan(frame) = call {
-            self.keep(frame);
+        if let Call::Scan(frame) = call
+            && frame.len() == FRAME_BYTES
+        {
+            *self = LastFrame { frame: Some(frame) };
         }
     }
 
-    // Whether a frame was accepted and showed a cell in this state.
-    pub(crate) fn shows(&self, buffer: Buffer, code: u16, state: State) -> bool
-        ensures { (f : Option (List ℕ)) (i : ℕ) → Shows self.now f → cell_position buffer code ≡ Some i → Decides result (ShownAs f i (is_on state)) }
+    // The cells that it showed, if there is one.
+    pub(crate) fn shown(&self) -> Option<PackedImage>
+        ensures { option_map (λ p. image p.bytes) result ≡ option_map cells_shown (frame_of self.now) }
     {
-        self.accepted && is_on(self.image.read(buffer, code)) == is_on(state)
+        self.frame.map(cells_of)
     }
+}
+
+// The cells that a frame shows.
+fn cells_of(frame: &[u8]) -> PackedImage
+    requires { length frame.now ≡ frame_bytes }
+    ensures { image result.bytes ≡ cells_shown frame.now }
+{
+    let (cells, _) = frame.split_at(CELL_BYTES);
+    let mut image = PackedImage::new();
+    image.take(cells);
+    image
 }

@@ -8,4 +8,5 @@ pub(crate) mod cells_alike;
 pub(crate) mod difference;
 pub mod kind;
 pub(crate) mod last_frame;
+pub(crate) mod side;
 pub mod step;

@@ -1,6 +1,7 @@
 -- What the console program reads and prints.
 use Rattle.std.specs.Prelude.{ℕ, List, [], ◌∷◌, ◌++◌, Some, None, Ok, Err, codes, decimal, Option, Result}
-use Rattle.tables.specs.Refusals.{Told, place_told}
+use Rattle.tables.specs.declared.refusal.Refusal.{Refusal}
+use Rattle.tables.specs.Refusals.{Told, told, place_told}
 use Rattle.tables.specs.Rows.{TableRows}
 use Rattle.documents.specs.Fields.{wide}
 use Rattle.console.specs.declared.load.LoadLine.{LoadLine}
@@ -16,11 +17,33 @@ abbrev pub or_zero : Option ℕ → ℕ
 or_zero None = 0
 or_zero (Some place) = place
 
--- the numbers of the line: 0 and 0 for an accepted document
-abbrev pub loaded : Result TableRows Told → LoadLine
-loaded (Ok rows) = record { number = 0; place = 0 }
-loaded (Err t) = record { number = t.number; place = or_zero (place_told t) }
+-- a line: a number and a place
+pub record Line : Type 0 where
+  pub number : ℕ
+  pub place : ℕ
+
+-- the line of an accepted document
+abbrev pub accepted : Line
+accepted = record { number = 0; place = 0 }
+
+-- the line of a refusal
+abbrev pub refused : Told → Line
+refused t = record { number = t.number; place = or_zero (place_told t) }
+
+-- the line of what reading a document gives
+abbrev pub loaded : Result TableRows Told → Line
+loaded (Ok rows) = accepted
+loaded (Err t) = refused t
+
+-- the line of a refusal, if there is one
+abbrev pub line_if : Option Refusal → Line
+line_if None = accepted
+line_if (Some refusal) = refused (told refusal)
+
+-- the line that a value stands for
+abbrev pub line_of : LoadLine → Line
+line_of l = line_if l.refusal
 
 -- the line's text: L, the number and the place
-abbrev pub load_text : LoadLine → List ℕ
+abbrev pub load_text : Line → List ℕ
 load_text l = codes "L " ++ (decimal l.number ++ (codes " " ++ decimal l.place))

@@ -1,9 +1,10 @@
 // Fields, and documents of them.
 use crate::rows::{bytes_of, put_text};
-use std::alloc::{AllocError, Global};
+use std::alloc::AllocError;
 use std::process::Abort;
 use std::test::Fail;
 
+// Here and below a tag is a number: tests write fields of no known tag.
 /// Appends a field: its tag, the length of its body, high byte first, and the body.
 pub fn put_field(document: &mut Vec<u8>, tag: u8, body: &[u8]) -> Result<(), AllocError> {
     let length = body.len();
@@ -13,13 +14,12 @@ pub fn put_field(document: &mut Vec<u8>, tag: u8, body: &[u8]) -> Result<(), All
 
 /// A document with a statement of these fields between two texts.
 pub fn document_of(
-    rt: &impl Abort,
-    heap: Global,
+    rt: &(impl Abort + AllocGlobal),
     front: &str,
     fields: &[u8],
     back: &str,
 ) -> Result<Vec<u8>, Fail> {
-    let mut document = bytes_of(rt, heap, front)?;
+    let mut document = bytes_of(rt, front)?;
     put_field(&mut document, 0x02, fields)?;
     put_text(rt, &mut document, back)?;
     Ok(document)
@@ -27,13 +27,12 @@ pub fn document_of(
 
 /// A document of one statement, whose fields are those of a text and then this one.
 pub fn document_with(
-    rt: &impl Abort,
-    heap: Global,
+    rt: &(impl Abort + AllocGlobal),
     front: &str,
     tag: u8,
     body: &[u8],
 ) -> Result<Vec<u8>, Fail> {
-    let mut fields = bytes_of(rt, heap, front)?;
+    let mut fields = bytes_of(rt, front)?;
     put_field(&mut fields, tag, body)?;
-    document_of(rt, heap, "v", &fields, "")
+    document_of(rt, "v", &fields, "")
 }

@@ -1,38 +1,39 @@
 // A row of a table of documents: how its document is written down, and how its answer is checked.
 use console::load::load_line;
-use std::alloc::Global;
 use std::fmt::Display;
 use std::process::Abort;
 use std::test::Fail;
 
-/// A label; a document, or the part of one that the table is about, as `put_text` reads it; and the number and place of
-/// the refusal, 0 and 0 where the document loads.
-pub struct Row(pub &'static str, pub &'static str, pub u8, pub usize);
+/// A refusal's number and its place.
+#[derive(Clone, Copy)]
+pub struct Refused(pub u8, pub usize);
 
-/// Fails, with the label, where a document is taken otherwise than by this number at this place.
+impl Refused {
+    /// The same refusal once `more` bytes stand in front of the field at fault.
+    pub fn behind(self, more: usize) -> Refused {
+        Refused(self.0, self.1.saturating_add(more))
+    }
+}
+
+/// A label; a document, or the part of one that the table is about, as `put_text` reads it; and the refusal, or none where
+/// the document loads.
+pub struct Row(pub &'static str, pub &'static str, pub Option<Refused>);
+
+/// Fails, with the label, where a document is taken otherwise than expected. The line of a document that loads has 0 and 0.
 pub fn check_row<L: Display>(
-    rt: &impl Abort,
+    rt: &(impl Abort + AllocGlobal),
     label: &L,
     document: &[u8],
-    number: u8,
-    place: usize,
+    expected: Option<Refused>,
 ) {
     let line = load_line(document);
-    let answered = line.number;
-    let at = line.place;
+    let Refused(number, place) = expected.unwrap_or(Refused(0, 0));
+    let answered = line.number();
+    let at = line.place();
     assert!(rt;
         answered == number && at == place,
         "{label}: {answered} {at} answered, {number} {place} expected"
     );
-}
-
-/// The place of a refusal once `more` bytes stand in front of the field at fault; a document that loads has none.
-pub fn moved(number: u8, place: usize, more: usize) -> usize {
-    if number == 0 {
-        0
-    } else {
-        place.saturating_add(more)
-    }
 }
 
 // A whole field that many documents have, by one letter: its tag, its length and its body.
@@ -73,7 +74,11 @@ fn hex_digit(character: u8) -> Option<u8> {
 }
 
 /// Appends what a text says: two hex digits for a byte, and a small letter for a whole field.
-pub fn put_text(rt: &impl Abort, bytes: &mut Vec<u8>, text: &str) -> Result<(), Fail> {
+pub fn put_text(
+    rt: &(impl Abort + AllocGlobal),
+    bytes: &mut Vec<u8>,
+    text: &str,
+) -> Result<(), Fail> {
     let mut high: Option<u8> = None;
     for character in text.as_bytes() {
         match (hex_digit(*character), high) {
@@ -90,18 +95,22 @@ pub fn put_text(rt: &impl Abort, bytes: &mut Vec<u8>, text: &str) -> Result<(), 
 }
 
 /// The bytes that a text says.
-pub fn bytes_of(rt: &impl Abort, heap: Global, text: &str) -> Result<Vec<u8>, Fail> {
-    let mut bytes = Vec::new(heap);
+pub fn bytes_of(rt: &(impl Abort + AllocGlobal), text: &str) -> Result<Vec<u8>, Fail> {
+    let mut bytes = Vec::new(rt.alloc());
     put_text(rt, &mut bytes, text)?;
     Ok(bytes)
 }
 
 /// Checks rows whose texts stand behind the bytes `front`.
-pub fn check_behind(rt: &impl Abort, heap: Global, front: &[u8], rows: &[Row]) -> Result<(), Fail> {
+pub fn check_behind(
+    rt: &(impl Abort + AllocGlobal),
+    front: &[u8],
+    rows: &[Row],
+) -> Result<(), Fail> {
     for row in rows.iter() {
-        let mut document = Vec::from_slice(heap, front)?;
+        let mut document = Vec::from_slice(rt.alloc(), front)?;
         put_text(rt, &mut document, row.1)?;
-        check_row(rt, &row.0, &document, row.2, row.3);
+        check_row(rt, &row.0, &document, row.2);
     }
     Ok(())
 }

@@ -1,21 +1,20 @@
 // Codes in a row that allow the same values: every family with every member, and every number with the entries at both
 // ends of what it allows and just past them. A test is refused at 11, an action at 21.
 use crate::action_values::{ActionRow, check_action};
-use crate::rows::moved;
+use crate::rows::Refused;
 use crate::test_values::{TestRow, check_test};
-use std::alloc::Global;
 use std::process::Abort;
 use std::test::Fail;
 
 /// A label, the first and the last code, and the least and the greatest value that each of these codes allows.
 struct Span(&'static str, u16, u16, u16, u16);
 
-// The refusal's number for a value: 0, or 4 outside the span.
-fn refusal_of(span: &Span, value: u16) -> u8 {
-    if span.3 <= value && value <= span.4 {
-        0
+// What a value at a place is refused with: 4 outside the span.
+fn refusal_of(span: &Span, value: u16, place: usize) -> Option<Refused> {
+    if (span.3..=span.4).contains(&value) {
+        None
     } else {
-        4
+        Some(Refused(4, place))
     }
 }
 
@@ -56,17 +55,16 @@ static NUMBERS: &[Span] = &[
 ];
 
 // Checks every member of every family, tested and set.
-fn check_members(rt: &impl Abort, heap: Global) -> Result<(), Fail> {
+fn check_members(rt: &(impl Abort + AllocGlobal)) -> Result<(), Fail> {
     for span in FAMILIES.iter() {
         for family in span.1..=span.2 {
             for member in 0..256u16 {
                 let which = family.wrapping_mul(256) | member;
-                let number = refusal_of(span, member);
-                let test = TestRow(span.0, 4, which, 1, 0, number, moved(number, 11, 0));
-                let action = ActionRow(span.0, 4, which, 1, number, moved(number, 21, 0));
-                let context = format!(in heap; "family {family}, member {member}")?;
-                check_test(rt, heap, &test, &context, "n", 0, 0)?;
-                check_action(rt, heap, &action, &context, "n i", 0x13, 0)?;
+                let test = TestRow(span.0, 4, which, 1, 0, refusal_of(span, member, 11));
+                let action = ActionRow(span.0, 4, which, 1, refusal_of(span, member, 21));
+                let context = format!(in rt.alloc(); "family {family}, member {member}")?;
+                check_test(rt, &test, &context, "n", 0, 0)?;
+                check_action(rt, &action, &context, "n i", 0x13, 0)?;
             }
         }
     }
@@ -74,14 +72,13 @@ fn check_members(rt: &impl Abort, heap: Global) -> Result<(), Fail> {
 }
 
 // Checks entries of every number.
-fn check_entries(rt: &impl Abort, heap: Global) -> Result<(), Fail> {
+fn check_entries(rt: &(impl Abort + AllocGlobal)) -> Result<(), Fail> {
     for span in NUMBERS.iter() {
         for which in span.1..=span.2 {
             for entry in [0, span.3, span.4, span.4.saturating_add(1), 65535] {
-                let number = refusal_of(span, entry);
-                let row = TestRow(span.0, 6, which, 0, entry, number, moved(number, 11, 0));
-                let context = format!(in heap; "number {which}, entry {entry}")?;
-                check_test(rt, heap, &row, &context, "n", 0, 0)?;
+                let row = TestRow(span.0, 6, which, 0, entry, refusal_of(span, entry, 11));
+                let context = format!(in rt.alloc(); "number {which}, entry {entry}")?;
+                check_test(rt, &row, &context, "n", 0, 0)?;
             }
         }
     }
@@ -90,7 +87,6 @@ fn check_entries(rt: &impl Abort, heap: Global) -> Result<(), Fail> {
 
 #[test]
 fn members_and_entries(rt: HostRuntime) -> Result<(), Fail> {
-    let heap = rt.alloc();
-    check_members(&rt, heap)?;
-    check_entries(&rt, heap)
+    check_members(&rt)?;
+    check_entries(&rt)
 }

@@ -1,5 +1,5 @@
 -- What acceptance gives.
-use Rattle.std.proofs.Common.{◌≡◌, ℕ, true, [], Some, None, Ok, Option, refl, subst, arith}
+use Rattle.std.proofs.Common.{◌≡◌, true, [], Some, None, Ok, Option, refl, subst}
 use Rattle.tables.specs.Rows.{TableRows}
 use Rattle.tables.specs.Rules.{table_keeps}
 use Rattle.tables.specs.Refusals.{Told}
@@ -13,7 +13,7 @@ use Rattle.documents.proofs.KeptTables.{clean_pieces_keep_the_rules}
 -- where a table is answered there is no fault, and it is the table that the pieces say
 pub answered : (o : Option Told) (said rows : TableRows) → unless o said ≡ Ok rows → (o ≡ None) × (said ≡ rows)
 answered None said rows e = (refl, cc)
-answered (Some fault) said rows e = let z : ◌≡◌ {A = ℕ} 0 1 = cc in absurd (omega arith)
+answered (Some fault) said rows e = absurd (cc)
 
 -- the table of an accepted document keeps every rule
 pub accepted_tables_keep_the_rules : AcceptedTablesKeepTheRules

@@ -8,8 +8,8 @@ use Rattle.documents.proofs.Faults.{both_none}
 
 -- a piece of a document that is not at fault has a tag, and 0 is none
 has_tag : (before : List Piece) (p : Piece) → top_fault before p ≡ None → 1 ≤ tag_of p
-has_tag before (cut place) e = let z : ◌≡◌ {A = ℕ} 0 1 = cc in absurd (omega arith)
-has_tag before (field place zero body) e = let z : ◌≡◌ {A = ℕ} 0 1 = cc in absurd (omega arith)
+has_tag before (cut place) e = absurd (cc)
+has_tag before (field place zero body) e = absurd (cc)
 has_tag before (field place (suc tag) body) e = omega arith
 
 -- so the last of pieces without fault has one, where the piece before them has
@@ -30,13 +30,13 @@ no_pieces (p ∷ ps) e low =
 -- only no bytes have no pieces
 no_bytes : (place : ℕ) (bs : List ℕ) → pieces place 0 bs ≡ [] → bs ≡ []
 no_bytes place [] e = refl
-no_bytes place (tag ∷ []) e = let z : ◌≡◌ {A = ℕ} 0 1 = cc in absurd (omega arith)
-no_bytes place (tag ∷ high ∷ []) e = let z : ◌≡◌ {A = ℕ} 0 1 = cc in absurd (omega arith)
+no_bytes place (tag ∷ []) e = absurd (cc)
+no_bytes place (tag ∷ high ∷ []) e = absurd (cc)
 no_bytes place (tag ∷ high ∷ low ∷ bs) e =
     let whole : List Piece = field place tag (take (wide high low) bs) ∷ pieces (place + 3) (wide high low) bs in
     ⊎_elim
-    (λ is. let s = cond-true (leb (wide high low) (length bs)) whole (cut place ∷ []) is in let z : ◌≡◌ {A = ℕ} 0 1 = cc in absurd (omega arith))
-    (λ isnt. let s = cond-false (leb (wide high low) (length bs)) whole (cut place ∷ []) isnt in let z : ◌≡◌ {A = ℕ} 0 1 = cc in absurd (omega arith))
+    (λ is. let s = cond-true (leb (wide high low) (length bs)) whole (cut place ∷ []) is in absurd (cc))
+    (λ isnt. let s = cond-false (leb (wide high low) (length bs)) whole (cut place ∷ []) isnt in absurd (cc))
     (cases_Bool (leb (wide high low) (length bs)))
 
 -- a document without fault whose last tag is 0 is empty

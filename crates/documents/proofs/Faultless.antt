@@ -1,5 +1,5 @@
 -- What holds of a body's start and goes on from each field without fault to the next holds of a body without fault.
-use Rattle.std.proofs.Common.{◌≡◌, ℕ, false, cond, eqb, List, [], ◌∷◌, ◌++◌, Some, None, Option, sym, refl, ap, ◌∙◌, subst, ⊎_elim, arith}
+use Rattle.std.proofs.Common.{◌≡◌, ℕ, false, cond, eqb, List, [], ◌∷◌, ◌++◌, Some, None, Option, sym, refl, ap, ◌∙◌, subst, ⊎_elim}
 use Rattle.std.specs.List.{AllByRecursion}
 use Rattle.std.proofs.lemmas.List.{append-nil, append_assoc}
 use Rattle.std.proofs.lemmas.Bool.{cases_Bool, eqb-true, cond-true, cond-false}
@@ -14,13 +14,13 @@ pub none_holds : (rules : Rules) → first rules ≡ None → AllByRecursion (λ
 none_holds [] none = tt
 none_holds (r ∷ rules) none =
     ⊎_elim
-    (λ is. let s = cond-true r.0 (Some r.1) (first rules) is in let z : ◌≡◌ {A = ℕ} 0 1 = cc in absurd (omega arith))
+    (λ is. let s = cond-true r.0 (Some r.1) (first rules) is in absurd (cc))
     (λ isnt. (isnt, none_holds rules (sym (cond-false r.0 (Some r.1) (first rules) isnt) ∙ none)))
     (cases_Bool r.0)
 
 -- an option that is not absent has a value
 pub value_there : {X : Type 0} (o : Option X) → absent o ≡ false → (x : X) × (o ≡ Some x)
-value_there None there = let z : ◌≡◌ {A = ℕ} 0 1 = cc in absurd (omega arith)
+value_there None there = absurd (cc)
 value_there (Some x) there = (x, refl)
 
 module _ (fault : List Piece → Piece → Option Told) (P : List Piece → Type 0) (step : (before : List Piece) (p : Piece) → fault before p ≡ None → P before → P (before ++ p ∷ [])) where

@@ -1,5 +1,5 @@
 -- A refusal is of the first fault.
-use Rattle.std.proofs.Common.{◌≡◌, ℕ, ◌+◌, eqb, leb, List, [], ◌∷◌, ◌++◌, Some, None, Err, Option, subst, ⊎_elim, arith}
+use Rattle.std.proofs.Common.{◌≡◌, ℕ, ◌+◌, eqb, leb, List, [], ◌∷◌, ◌++◌, Some, None, Err, Option, subst, ⊎_elim}
 use Rattle.std.proofs.lemmas.Bool.{eqb-true, leb-false}
 use Rattle.tables.specs.Refusals.{Told, refused_at}
 use Rattle.tables.specs.Rows.{TableRows}
@@ -45,7 +45,7 @@ module _ (doc : List ℕ) (t : Told) (before after : List Piece) (clean : Clean 
 
   -- the piece at fault is not so itself, but inside
   by_inside : (p : Piece) → pieces 0 0 doc ≡ before ++ p ∷ after → first (top_rules before p) ≡ None → inner_fault before p ≡ Some t → FirstFault doc t
-  by_inside (cut place) split sound e = let z : ◌≡◌ {A = ℕ} 0 1 = cc in absurd (omega arith)
+  by_inside (cut place) split sound e = absurd (cc)
   by_inside (field place tag body) split sound e =
       let h = test_held (eqb tag 2) (statement_fault (names_in before) place body) t e in
       let is = eqb-true tag 2 h.0 in
@@ -78,7 +78,7 @@ fault_is_first doc t e =
 
 -- a refusal is of a fault
 refused_of : (fault : Option Told) (rows : TableRows) (t : Told) → unless fault rows ≡ Err t → fault ≡ Some t
-refused_of None rows t e = let z : ◌≡◌ {A = ℕ} 0 1 = cc in absurd (omega arith)
+refused_of None rows t e = absurd (cc)
 refused_of (Some u) rows t e = cc
 
 -- a refusal is of the first fault

@@ -1,5 +1,5 @@
 -- `first-fault` finds the first fault, with no fault before it.
-use Rattle.std.proofs.Common.{◌≡◌, ℕ, List, [], ◌∷◌, ◌++◌, Some, None, Option, refl, ap, ◌∙◌, subst, arith}
+use Rattle.std.proofs.Common.{◌≡◌, List, [], ◌∷◌, ◌++◌, Some, None, Option, refl, ap, ◌∙◌, subst}
 use Rattle.std.proofs.lemmas.List.{append_assoc, append-nil}
 use Rattle.tables.specs.Refusals.{Told}
 use Rattle.documents.specs.Fields.{Piece}
@@ -20,8 +20,8 @@ module _ (fault : List Piece → Piece → Option Told) where
   -- where no fault is found after the pieces passed, no piece is at fault after them
   none_after : (ps passed : List Piece) → first_fault fault passed ps ≡ None
       → (before : List Piece) (p : Piece) (after : List Piece) → ps ≡ before ++ p ∷ after → fault (passed ++ before) p ≡ None
-  none_after [] passed e [] p after s = let z : ◌≡◌ {A = ℕ} 0 1 = cc in absurd (omega arith)
-  none_after [] passed e (b ∷ before) p after s = let z : ◌≡◌ {A = ℕ} 0 1 = cc in absurd (omega arith)
+  none_after [] passed e [] p after s = absurd (cc)
+  none_after [] passed e (b ∷ before) p after s = absurd (cc)
   none_after (q ∷ ps) passed e [] p after s =
       let two = both_none (fault passed q) (first_fault fault (passed ++ q ∷ []) ps) e in
       let same : q ≡ p = cc in
@@ -56,7 +56,7 @@ module _ (fault : List Piece → Piece → Option Told) where
 
   -- a fault that is found is found at some piece, with none before it
   found_at : (ps passed : List Piece) (t : Told) → first_fault fault passed ps ≡ Some t → Found fault passed ps t
-  found_at [] passed t e = let z : ◌≡◌ {A = ℕ} 0 1 = cc in absurd (omega arith)
+  found_at [] passed t e = absurd (cc)
   found_at (q ∷ ps) passed t e = found_one q ps passed t (fault passed q) refl (found_at ps (passed ++ q ∷ []) t) e
 
   -- the first fault of a list of pieces is that of one of them, and those before it are clean

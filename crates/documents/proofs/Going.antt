@@ -1,5 +1,5 @@
 -- What a loop over a body's fields keeps.
-use Rattle.std.proofs.Common.{◌≡◌, ℕ, ◌+◌, List, [], ◌∷◌, ◌++◌, length, Some, None, Option, sym, refl, ap, ◌∙◌, arith}
+use Rattle.std.proofs.Common.{◌≡◌, ℕ, ◌+◌, List, [], ◌∷◌, ◌++◌, length, None, Option, sym, refl, ap, ◌∙◌, arith}
 use Rattle.std.proofs.lemmas.List.{append-nil, append_assoc}
 use Rattle.tables.specs.Refusals.{Told}
 use Rattle.documents.specs.Fields.{Piece, field, pieces, last_tag}
@@ -28,10 +28,6 @@ pub begun : (fault : List Piece → Piece → Option Told) (start : ℕ) (body :
 begun fault start body = record { split = refl; clean = refl; first = refl; tag = refl; long = refl }
 
 module _ {fault : List Piece → Piece → Option Told} {start : ℕ} {body : List ℕ} {before : List Piece} {last here : ℕ} {rest : List ℕ} (h : Passed fault start body before last here rest) where
-  -- the next piece is at fault
-  pub stopped : (p : Piece) (ps : List Piece) (t : Told) → pieces here 0 rest ≡ p ∷ ps → fault before p ≡ Some t → first_fault fault [] (pieces start 0 body) ≡ Some t
-  stopped p ps t e bad = h.first ∙ ap (first_fault fault before) e ∙ ap (λ o. or_else o (first_fault fault (before ++ p ∷ []) ps)) bad
-
   -- the next piece is a field without fault
   pub onward : (t : ℕ) (b after : List ℕ) → pieces here 0 rest ≡ field here t b ∷ pieces (here + (3 + length b)) 0 after → 3 + length b + length after ≡ length rest → fault before (field here t b) ≡ None → Passed fault start body (before ++ field here t b ∷ []) t (here + (3 + length b)) after
   onward t b after e n good = record {

@@ -18,7 +18,7 @@ use Rattle.documents.proofs.KeptBranches.{thens_kept, elses_kept}
 -- where a condition alone keeps a fault away, and there is none, the condition is met
 pub condition_met : {X : Type 0} (b : Bool) (x : X) → cond b None (Some x) ≡ None → b ≡ true
 condition_met true x e = refl
-condition_met false x e = let z : ◌≡◌ {A = ℕ} 0 1 = cc in absurd (omega arith)
+condition_met false x e = absurd (cc)
 
 -- a finished statement's last field is a test or an action
 pub finished : (place last : ℕ) → unfinished place last ≡ None → 18 ≤ last

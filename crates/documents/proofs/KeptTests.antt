@@ -1,8 +1,8 @@
 -- The tests of a statement without fault keep their rules, and once its last field is a test or an action there is one.
-use Rattle.std.proofs.Common.{◌≡◌, ℕ, ◌≤◌, true, false, cond, not, eqb, leb, List, [], ◌∷◌, ◌++◌, map, length, Some, None, sym, refl, ap, ◌∙◌, subst, arith}
+use Rattle.std.proofs.Common.{◌≡◌, ℕ, ◌<◌, ◌≤◌, true, false, cond, not, eqb, leb, List, [], ◌∷◌, ◌++◌, map, length, Some, None, sym, refl, ap, ◌∙◌, subst, arith}
 use lib.Dec.{leb-zero, eqb-suc-zero}
 use Rattle.std.proofs.lemmas.List.{length_push}
-use Rattle.std.proofs.lemmas.Bool.{and_parts, and_from, le-leb}
+use Rattle.std.proofs.lemmas.Bool.{and_parts, and_from, eqb-true, le-leb}
 use Rattle.tables.specs.declared.test.Join.{Join}
 use Rattle.tables.specs.declared.test.Join.TheVariants.{First, And, Or}
 use Rattle.tables.specs.declared.test.JoinedTest.{JoinedTest}
@@ -41,6 +41,10 @@ test_in_keeps body t is =
       subst (λ (u : JoinedTest). test_keeps u.test ≡ true) two.4 (test_of_keeps (test_codes_in body) two.1 two.3).1,
     )
 
+-- so whether a test begins is told by the body's first byte
+pub begins_by_code : (body : List ℕ) (t : JoinedTest) → test_in body ≡ Some t → begins t.join ≡ eqb (byte body 0) 0
+begins_by_code body t is = sym (test_in_keeps body t is).0
+
 -- ---- one test more
 
 -- the joins of a list of tests are right with one more, if that one begins exactly where it is the first
@@ -58,6 +62,7 @@ record TestsKeep (ts : List JoinedTest) (last : ℕ) : Type 0 where
   joins : joins_keep ts ≡ true
   each : every (λ t. test_keeps t.test) ts ≡ true
   some : 18 ≤ last → leb 1 (length ts) ≡ true
+  late : 0 < length ts → 18 ≤ last
 
 -- the tests among the pieces keep their rules
 abbrev TestsKept : List Piece → Type 0
@@ -72,15 +77,16 @@ kept_push ts t last so few joins this =
       joins = joins_push ts t so.joins joins;
       each = every_push (λ u. test_keeps u.test) ts t so.each this;
       some = λ _. le-leb 1 (length (ts ++ t ∷ [])) (omega arith);
+      late = λ _. omega arith;
     }
 
 module _ (before : List Piece) (place : ℕ) (body : List ℕ) where
   -- a field with another tag leaves the tests as they are; an action has a test before it
-  kept_other : (tag : ℕ) → cond (eqb tag 18) (body ∷ []) [] ≡ [] → (18 ≤ tag → 18 ≤ last_tag before) → TestsKept before → TestsKept (before ++ field place tag body ∷ [])
-  kept_other tag isnt late so =
+  kept_other : (tag : ℕ) → cond (eqb tag 18) (body ∷ []) [] ≡ [] → (18 ≤ tag → 18 ≤ last_tag before) → (18 ≤ last_tag before → 18 ≤ tag) → TestsKept before → TestsKept (before ++ field place tag body ∷ [])
+  kept_other tag isnt late still so =
       subst (TestsKeep (tests_in (before ++ field place tag body ∷ []))) (sym (tag_push place tag body before))
       (subst (λ bs. TestsKeep (somes (map test_in bs)) tag) (sym (same place body before 18 tag isnt))
-      (record { few = so.few; joins = so.joins; each = so.each; some = λ h. so.some (late h) }))
+      (record { few = so.few; joins = so.joins; each = so.each; some = λ h. so.some (late h); late = λ h. still (so.late h) }))
 
   -- a test without fault is one more
   kept_more : TestPasses (last_tag before) (length (tests_in before)) body → TestsKept before → TestsKept (before ++ field place 18 body ∷ [])
@@ -97,13 +103,13 @@ module _ (used : List ℕ) (ps : List Piece) (none : first_fault (part_fault use
   all_kept : TestsKept ps
   all_kept =
       let steps : PartSteps used TestsKept = record {
-        name = λ before place body h so. kept_other before place body 16 refl (λ late. absurd (omega arith)) so;
-        mark = λ before place body h so. kept_other before place body 17 refl (λ late. absurd (omega arith)) so;
+        name = λ before place body h so. let e = eqb-true (last_tag before) 0 h.due in kept_other before place body 16 refl (λ late. absurd (omega arith)) (λ late. absurd (omega arith)) so;
+        mark = λ before place body h so. let e = eqb-true (last_tag before) 16 h.due in kept_other before place body 17 refl (λ late. absurd (omega arith)) (λ late. absurd (omega arith)) so;
         test = λ before place body h so. kept_more before place body h so;
-        thens = λ before place body h so. kept_other before place body 19 refl (λ _. due_after 18 (last_tag before) 19 h.in_turn) so;
-        elses = λ before place body h so. kept_other before place body 20 refl (λ _. due_after 18 (last_tag before) 20 h.in_turn) so;
+        thens = λ before place body h so. kept_other before place body 19 refl (λ _. due_after 18 (last_tag before) 19 h.in_turn) (λ _. omega arith) so;
+        elses = λ before place body h so. kept_other before place body 20 refl (λ _. due_after 18 (last_tag before) 20 h.in_turn) (λ _. omega arith) so;
       } in
-      parts_faultless used TestsKept steps ps none (record { few = leb-zero max_tests; joins = refl; each = refl; some = λ late. absurd (omega arith) })
+      parts_faultless used TestsKept steps ps none (record { few = leb-zero max_tests; joins = refl; each = refl; some = λ late. absurd (omega arith); late = λ some. absurd (omega arith) })
 
   -- a body without fault has few enough tests
   pub tests_few : leb (length (tests_in ps)) max_tests ≡ true
@@ -120,3 +126,7 @@ module _ (used : List ℕ) (ps : List Piece) (none : first_fault (part_fault use
   -- it has a test where its last field is a test or an action
   pub tests_some : 18 ≤ last_tag ps → leb 1 (length (tests_in ps)) ≡ true
   tests_some late = all_kept.some late
+
+  -- and where it has one, its last field is a test or an action
+  pub tests_late : 0 < length (tests_in ps) → 18 ≤ last_tag ps
+  tests_late some = all_kept.late some

@@ -14,10 +14,10 @@ pub none_applies : (rules : Rules) → first rules ≡ None → (number : ℕ) �
 none_applies [] e number there = there
 none_applies (r ∷ rs) e number (inl same) =
     let s = cond-true r.0 (Some r.1) (first rs) (ap (λ x. x.0) same) in
-    let z : ◌≡◌ {A = ℕ} 0 1 = cc in omega arith
+    cc
 none_applies (r ∷ rs) e number (inr there) =
     ⊎_elim
-    (λ is. let s = cond-true r.0 (Some r.1) (first rs) is in let z : ◌≡◌ {A = ℕ} 0 1 = cc in omega arith)
+    (λ is. let s = cond-true r.0 (Some r.1) (first rs) is in cc)
     (λ isnt. none_applies rs (sym (cond-false r.0 (Some r.1) (first rs) isnt) ∙ e) number there)
     (cases_Bool r.0)
 
@@ -37,7 +37,7 @@ above_floor (r ∷ rs) floor up number (inr there) =
 
 -- the first number applies
 first_applies : (rules : Rules) (number : ℕ) → first rules ≡ Some number → Applies rules number
-first_applies [] number e = let z : ◌≡◌ {A = ℕ} 0 1 = cc in absurd (omega arith)
+first_applies [] number e = absurd (cc)
 first_applies (r ∷ rs) number e =
     ⊎_elim
     (λ is. let s = cond-true r.0 (Some r.1) (first rs) is in let n : r.1 ≡ number = cc in inl (ap (λ b. (b, r.1)) is ∙ ap (λ m. (true, m)) n))

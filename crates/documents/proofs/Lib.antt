@@ -25,4 +25,8 @@ pub mod KeptStatements
 pub mod TopSteps
 pub mod KeptTables
 pub mod Accepting
+pub mod Stepping
+pub mod Endings
+pub mod TakenParts
 pub mod Adding
+pub mod TakenFields

@@ -1,5 +1,5 @@
 -- A statement's body without fault, field by field: each of its five kinds of field, with what its rules tell.
-use Rattle.std.proofs.Common.{◌≡◌, ℕ, List, [], ◌∷◌, ◌++◌, length, None, arith}
+use Rattle.std.proofs.Common.{◌≡◌, ℕ, List, [], ◌∷◌, ◌++◌, length, None}
 use Rattle.documents.specs.Fields.{Piece, field, cut, last_tag}
 use Rattle.documents.specs.Judging.{first, first_fault}
 use Rattle.documents.specs.Statements.{tests_in, actions_in, then_due, else_due, part_rules, part_fault}
@@ -18,7 +18,7 @@ pub record PartSteps (used : List ℕ) (P : List Piece → Type 0) : Type 0 wher
 module _ (used : List ℕ) (P : List Piece → Type 0) (steps : PartSteps used P) where
   -- over any piece without fault: a cut one has a fault
   part_step : (before : List Piece) (p : Piece) → part_fault used before p ≡ None → P before → P (before ++ p ∷ [])
-  part_step before (cut place) none so = let z : ◌≡◌ {A = ℕ} 0 1 = cc in absurd (omega arith)
+  part_step before (cut place) none so = absurd (cc)
   part_step before (field place tag body) none so =
       let C : ℕ → Type 0 = λ t. P (before ++ field place t body ∷ []) in
       let last : ℕ = last_tag before in
@@ -32,7 +32,7 @@ module _ (used : List ℕ) (P : List Piece → Type 0) (steps : PartSteps used P
       (λ n. steps.thens before place body (action_passes (then_due last) (actions_in 19 before) body n) so)
       (λ r. by_tag tag 20 C _ _ r
       (λ n. steps.elses before place body (action_passes (else_due last) (actions_in 20 before) body n) so)
-      (λ r. let z : ◌≡◌ {A = ℕ} 0 1 = cc in absurd (omega arith))))))
+      (λ r. absurd (cc))))))
 
   -- so P goes from the start of a body without fault to its end
   pub parts_faultless : (ps : List Piece) → first_fault (part_fault used) [] ps ≡ None → P [] → P ps

@@ -16,8 +16,8 @@ alone start [] p q after is e =
     let same : q ≡ p = cc in
     let at : place_of q ≡ place_of p = ap place_of same in
     record { whole = tt; here = omega arith }
-alone start (b ∷ []) p q after is e = let z : ◌≡◌ {A = ℕ} 0 1 = cc in absurd (omega arith)
-alone start (b ∷ c ∷ before) p q after is e = let z : ◌≡◌ {A = ℕ} 0 1 = cc in absurd (omega arith)
+alone start (b ∷ []) p q after is e = absurd (cc)
+alone start (b ∷ c ∷ before) p q after is e = absurd (cc)
 
 -- the pieces after a whole field stand after it
 after_field : (start tag n : ℕ) (body : List ℕ) (rest before : List Piece) (p : Piece) (after : List Piece) → length body ≡ n
@@ -35,8 +35,8 @@ after_field start tag n body rest (b ∷ above) p after long more e =
 
 -- every piece of the bytes from `place` on stands so, where `skip` bytes still belong to the field before
 stands : (place skip : ℕ) (bs : List ℕ) (before : List Piece) (p : Piece) (after : List Piece) → pieces place skip bs ≡ before ++ p ∷ after → Stands (place + skip) before p
-stands place skip [] [] p after e = let z : ◌≡◌ {A = ℕ} 0 1 = cc in absurd (omega arith)
-stands place skip [] (b ∷ before) p after e = let z : ◌≡◌ {A = ℕ} 0 1 = cc in absurd (omega arith)
+stands place skip [] [] p after e = absurd (cc)
+stands place skip [] (b ∷ before) p after e = absurd (cc)
 stands place (suc skip) (b ∷ bs) before p after e =
     let same : place + 1 + skip ≡ place + suc skip = omega arith in
     subst (λ s. Stands s before p) same (stands (place + 1) skip bs before p after e)

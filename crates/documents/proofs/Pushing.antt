@@ -1,7 +1,8 @@
 -- What one more at a list's end changes, and how what each of a list passes follows.
-use Rattle.std.proofs.Common.{◌≡◌, ℕ, Bool, true, false, cond, not, eqb, ltb, leb, List, [], ◌∷◌, ◌++◌, map, length, sym, refl, ap, ◌∙◌, inl, inr, arith}
+use Rattle.std.proofs.Common.{◌≡◌, ◌==◌, ℕ, Bool, true, false, cond, not, ◌&&◌, ◌||◌, eqb, ltb, leb, List, [], ◌∷◌, ◌++◌, map, length, sym, refl, ap, ◌∙◌, arith}
 use Rattle.std.proofs.lemmas.List.{map-append, length_push}
-use Rattle.std.proofs.lemmas.Bool.{and_parts, and_from, or_parts, or_from, or_left, or_right, or_cases, not-true, not_from_false, eqb-false, ne_eqb, leb-false, le-leb}
+use Rattle.std.proofs.lemmas.List.Folds.{list_all-append, list_any-append, list_all-map}
+use Rattle.std.proofs.lemmas.Bool.{and_parts, and_from, or_parts, or_from, or_left, not-true, not_from_false, eqb-false, ne_eqb, leb-false, le-leb}
 use Rattle.tables.specs.Lists.{every, member, distinct, rising}
 use Rattle.documents.specs.Fields.{Piece, field, bodies, latest}
 use Rattle.documents.proofs.Taking.{more}
@@ -17,10 +18,7 @@ module _ {X : Type 0} where
   module _ (passes : X → Bool) where
     -- where each passes and the added one does, each does
     pub every_push : (xs : List X) (x : X) → every passes xs ≡ true → passes x ≡ true → every passes (xs ++ x ∷ []) ≡ true
-    every_push [] x all this = and_from (passes x) true this refl
-    every_push (y ∷ xs) x all this =
-        let two = and_parts (passes y) (every passes xs) all in
-        and_from (passes y) (every passes (xs ++ x ∷ [])) two.0 (every_push xs x two.1 this)
+    every_push xs x all this = list_all-append passes xs (x ∷ []) ∙ and_from (every passes xs) (passes x && true) all (and_from (passes x) true this refl)
 
     -- where one test follows from another, each passes that passes the other
     pub every_weaker : (weaker : X → Bool) → ((x : X) → passes x ≡ true → weaker x ≡ true) → (xs : List X) → every passes xs ≡ true → every weaker xs ≡ true
@@ -31,26 +29,15 @@ module _ {X : Type 0} where
 
     -- each image passes where each element's does
     pub every_map : {Y : Type 0} (f : Y → X) (ys : List Y) → every (λ y. passes (f y)) ys ≡ true → every passes (map f ys) ≡ true
-    every_map f [] all = refl
-    every_map f (y ∷ ys) all =
-        let two = and_parts (passes (f y)) (every (λ z. passes (f z)) ys) all in
-        and_from (passes (f y)) (every passes (map f ys)) two.0 (every_map f ys two.1)
+    every_map f ys all = list_all-map passes f ys ∙ all
 
 -- a member stays one
 pub member_push : (n : ℕ) (ms : List ℕ) (m : ℕ) → member n ms ≡ true → member n (ms ++ m ∷ []) ≡ true
-member_push n [] m in' = let z : ◌≡◌ {A = ℕ} 0 1 = cc in absurd (omega arith)
-member_push n (k ∷ ms) m in' =
-    elim (or_cases (eqb n k) (member n ms) in') [
-      | inl here ↦ or_left (eqb n k) (member n (ms ++ m ∷ [])) here
-      | inr there ↦ or_right (eqb n k) (member n (ms ++ m ∷ [])) (member_push n ms m there)
-    ]
+member_push n ms m in' = list_any-append (λ k. n == k) ms (m ∷ []) ∙ or_left (member n ms) ((n == m) || false) in'
 
 -- what is neither in a list nor the added number is not in both together
 pub not_member_push : (n : ℕ) (ms : List ℕ) (m : ℕ) → member n ms ≡ false → eqb n m ≡ false → member n (ms ++ m ∷ []) ≡ false
-not_member_push n [] m out other = or_from (eqb n m) false other refl
-not_member_push n (k ∷ ms) m out other =
-    let two = or_parts (eqb n k) (member n ms) out in
-    or_from (eqb n k) (member n (ms ++ m ∷ [])) two.0 (not_member_push n ms m two.1 other)
+not_member_push n ms m out other = list_any-append (λ k. n == k) ms (m ∷ []) ∙ or_from (member n ms) (eqb n m || false) out (or_from (eqb n m) false other refl)
 
 -- numbers that all differ, and one that is not among them, all differ
 pub distinct_push : (ms : List ℕ) (m : ℕ) → distinct ms ≡ true → member m ms ≡ false → distinct (ms ++ m ∷ []) ≡ true

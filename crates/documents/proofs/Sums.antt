@@ -1,9 +1,11 @@
 -- Sums of DELAYs.
-use Rattle.std.proofs.Common.{◌≡◌, ◌+◌, List, [], ◌∷◌, ◌++◌, arith}
+use Rattle.std.proofs.Common.{◌≡◌, ◌+◌, List, [], ◌∷◌, refl, ap, ◌∙◌, sym}
+use Rattle.std.specs.List.{sum_by}
+use Rattle.std.proofs.lemmas.List.Sums.{sum_by-cons}
 use Rattle.tables.specs.declared.action.Action.{Action}
 use Rattle.tables.specs.Rules.{delay, delays}
 
--- one action more at the end
-pub delays_push : (xs : List Action) (a : Action) → delays (xs ++ a ∷ []) ≡ delays xs + delay a
-delays_push [] a = omega arith
-delays_push (x ∷ xs) a = let e = delays_push xs a in omega arith
+-- in std's words
+pub delays_as_sum : (xs : List Action) → delays xs ≡ sum_by delay xs
+delays_as_sum [] = refl
+delays_as_sum (x ∷ xs) = ap (λ n. delay x + n) (delays_as_sum xs) ∙ sym (sum_by-cons delay x xs)

@@ -1,5 +1,5 @@
 -- A document without fault, field by field: each of its three kinds of field, with what its rules tell.
-use Rattle.std.proofs.Common.{◌≡◌, ℕ, true, not, List, [], ◌∷◌, ◌++◌, None, arith}
+use Rattle.std.proofs.Common.{◌≡◌, ℕ, true, not, List, [], ◌∷◌, ◌++◌, None}
 use Rattle.std.proofs.lemmas.Bool.{not-false}
 use Rattle.documents.specs.Fields.{Piece, field, cut, last_tag}
 use Rattle.documents.specs.Judging.{first, at, first_fault}
@@ -18,7 +18,7 @@ pub record TopSteps (P : List Piece → Type 0) : Type 0 where
 module _ (P : List Piece → Type 0) (steps : TopSteps P) where
   -- over any piece without fault: a cut one has a fault
   top_step : (before : List Piece) (p : Piece) → top_fault before p ≡ None → P before → P (before ++ p ∷ [])
-  top_step before (cut place) none so = let z : ◌≡◌ {A = ℕ} 0 1 = cc in absurd (omega arith)
+  top_step before (cut place) none so = absurd (cc)
   top_step before (field place tag body) none so =
       let two = both_none (at place (first (top_rules before (field place tag body)))) (inner_fault before (field place tag body)) none in
       let C : ℕ → Type 0 = λ t. inner_fault before (field place t body) ≡ None → P (before ++ field place t body ∷ []) in
@@ -29,7 +29,7 @@ module _ (P : List Piece → Type 0) (steps : TopSteps P) where
       (λ n inner. steps.statement before place body (not-false (statement_due last) (none_holds ((not (statement_due last), 2) ∷ []) n).0) inner so)
       (λ r. by_tag tag 3 C _ _ r
       (λ n inner. steps.plan before place body (plan_passes last (last_plan before) (names_in before) body n) so)
-      (λ r. let z : ◌≡◌ {A = ℕ} 0 1 = cc in absurd (omega arith))))
+      (λ r. absurd (cc))))
       two.1
 
   -- so P goes from the start of a document without fault to its end

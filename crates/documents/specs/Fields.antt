@@ -1,5 +1,5 @@
 -- How bytes are cut into fields: a tag, a length of two bytes, and a body of that length.
-use Rattle.std.specs.Prelude.{ℕ, zero, suc, ◌+◌, ◌*◌, cond, List, [], ◌∷◌, map, length, take, ◌==◌, nat_le, slice_index}
+use Rattle.std.specs.Prelude.{ℕ, zero, suc, ◌+◌, ◌*◌, cond, List, [], ◌∷◌, map, length, take, Some, None, Option, ◌==◌, nat_le, slice_index}
 
 -- A piece of a body: a whole field, or a cut one at the end, each with the place of its first byte.
 pub data Piece : Type 0 where
@@ -44,6 +44,11 @@ latest none (x ∷ xs) = latest x xs
 -- the tag of the last piece, 0 where there is none
 abbrev pub last_tag : List Piece → ℕ
 last_tag ps = latest 0 (map tag_of ps)
+
+-- the tag of the field before, 0 where there is none
+abbrev pub tag_before : {K : Type 0} → (K → ℕ) → Option K → ℕ
+tag_before tag None = 0
+tag_before tag (Some kind) = tag kind
 
 -- a byte of a body
 abbrev pub byte : List ℕ → ℕ → ℕ

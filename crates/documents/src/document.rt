@@ -1,88 +1,73 @@
 // A table from a document.
-ghost use Rattle.std.specs.Prelude.{◌≡◌, ◌+◌, ◌^◌, ◌<◌, [], length, IfErr, Some, None, Ok, Err, MatchResult};
+ghost use Rattle.std.specs.Prelude.{◌≡◌, [], IfErr, Ok, Err, MatchResult};
 ghost use Rattle.tables.specs.Refusals.{told};
 ghost use Rattle.tables.specs.Contents.{rows_of};
-ghost use Rattle.documents.specs.Judging.{first, at};
+ghost use Rattle.tables.specs.Tags.{document_tag};
+ghost use Rattle.documents.specs.Fields.{tag_before};
 ghost use Rattle.documents.specs.Documents.{version_rules, table_in, reading};
 ghost use Rattle.documents.specs.Drafts.{Added};
+ghost use Rattle.documents.specs.Reads.{Read};
 ghost use Rattle.documents.specs.Refused.{FirstFault, AtAField};
 
 use crate::draft::Draft;
-use crate::field::next_field;
-use crate::placed::Placed;
-use crate::plan::{PLAN, STATEMENT, VERSION, last_number, plan_of, read_plan};
-use crate::statement::{add, follows, read_statement};
+use crate::field::Field;
+use crate::fields::Fields;
+use crate::parts::add;
+use crate::plan::read_plan;
+use crate::statement::read_statement;
+use tables::codes::tags::DocumentField;
 use tables::refusal::Refusal;
 use tables::table::Table;
 
 /// The version that documents have.
-const THE_VERSION: u8 = 1;
+pub const THE_VERSION: u8 = 1;
 
-fn read_version(place: usize, last: u8, body: &[u8]) -> Result<(), Refusal>
-    ensures { MatchResult result
-        (λ _. first (version_rules last body.now) ≡ None)
-        (λ e. at place (first (version_rules last body.now)) ≡ Some (told e)) }
+// The version, which comes first.
+#[tactic(auto, using(std::proofs::lemmas::Bool::Decides::nat_tests), unfolding(crate::specs::Documents::version_rules))]
+fn read_version(field: &Field<DocumentField>) -> Result<(), Refusal>
+    ensures { let f = field.now in Read f.place
+        (version_rules (tag_before document_tag f.before) f.body.now)
+        (λ _. Unit {0}) result }
 {
-    if last != 0 || body.len() != 1 {
-        return Err(Refusal::NotDue(place));
-    }
-    if body[0] != THE_VERSION {
-        return Err(Refusal::OutOfRange(place));
+    let [version] = *field.body_if_due::<1>(field.before.is_none())?;
+    if version != THE_VERSION {
+        return Err(Refusal::OutOfRange(field.place));
     }
     Ok(())
 }
 
-/// Takes one field of a document into the table under construction.
-fn take_field(
-    draft: &mut Draft,
-    place: usize,
-    last: u8,
-    tag: u8,
-    body: &[u8],
-) -> Result<(), Refusal>
-    requires { place + 3 + length body.now < 2 ^ 64 }
-    ensures { Added place last tag body.now draft.old draft.new result }
+// Takes one field of a document into the table under construction.
+fn take_field(draft: &mut Draft, field: &Field<DocumentField>) -> Result<(), Refusal>
+    ensures { Added field.now draft.old draft.new result }
 {
-    match tag {
-        VERSION => read_version(place, last, body)?,
-        STATEMENT if follows(VERSION, STATEMENT, last) => {
-            let value = read_statement(draft.statements.as_slice(), place, body)?;
-            add(&mut draft.statements, Placed { place, value })?;
+    match field.kind {
+        DocumentField::Version => read_version(field)?,
+        DocumentField::Statement => {
+            if !field.follows(DocumentField::Version) {
+                return Err(Refusal::NotDue(field.place));
+            }
+            let statement = read_statement(draft.statements.as_slice(), field)?;
+            add(&mut draft.statements, statement, field.place)?;
         }
-        PLAN => {
-            let above = last_number(draft.plans.as_slice());
-            let plan = read_plan(draft.statements.as_slice(), above, place, last, body)?;
-            let value = plan_of(plan.value, body);
-            add(
-                &mut draft.plans,
-                Placed {
-                    place: plan.place,
-                    value,
-                },
-            )?;
+        DocumentField::Plan => {
+            let plan = read_plan(draft.statements.as_slice(), draft.plans.as_slice(), field)?;
+            add(&mut draft.plans, plan, field.place)?;
         }
-        _ => return Err(Refusal::NotDue(place)),
     }
     Ok(())
 }
 
-/// The table that a document says, or the refusal of its first fault.
+// The table that a document says, or the refusal of its first fault.
 fn table_in(document: &[u8]) -> Result<Table, Refusal>
     ensures { MatchResult result (λ t. reading document.now ≡ Ok (rows_of t)) (λ e. reading document.now ≡ Err (told e)) }
 {
-    let mut draft = Draft::new();
-    let mut last = 0;
-    let mut here = 0;
-    let mut rest = document;
-    while !rest.is_empty() {
-        let f = next_field(here, rest)?;
-        take_field(&mut draft, here, last, f.tag, f.body)?;
-        last = f.tag;
-        here += 3 + f.body.len();
-        rest = f.rest;
-    }
-    if last < VERSION {
+    // Without any field it lacks its version.
+    if document.is_empty() {
         return Err(Refusal::NotDue(0));
+    }
+    let mut draft = Draft::new();
+    for field in Fields::new(0, document) {
+        take_field(&mut draft, &field?)?;
     }
     Ok(draft.finish())
 }

@@ -5,9 +5,9 @@
 pub mod document;
 pub(crate) mod draft;
 pub(crate) mod field;
+pub(crate) mod fields;
 pub(crate) mod lines;
 pub(crate) mod parts;
-pub mod placed;
 pub(crate) mod plan;
 pub mod promises;
 pub(crate) mod statement;

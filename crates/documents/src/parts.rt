@@ -1,118 +1,119 @@
 // The fields of a statement's body, one reader each.
-ghost use Rattle.std.specs.Prelude.{◌≡◌, ◌≤◌, length, Some};
-ghost use Rattle.tables.specs.Limits.{max_actions};
-ghost use Rattle.tables.specs.Lists.{member};
+ghost use Rattle.std.specs.Prelude.{◌≡◌, ◌≤◌, [], ◌∷◌, ◌++◌, length, Some, MatchResult};
+ghost use Rattle.bounded.specs.Held.{held};
+ghost use Rattle.tables.specs.Lists.{member, listed};
+ghost use Rattle.tables.specs.Rules.{begins};
+ghost use Rattle.tables.specs.Tags.{statement_tag};
+ghost use Rattle.documents.specs.Fields.{tag_before};
 ghost use Rattle.documents.specs.Statements.{name_in, name_rules, mark_in, mark_rules, test_in, test_rules, action_in, action_rules};
-ghost use Rattle.documents.specs.Reads.{Read, names_of};
+ghost use Rattle.documents.specs.Reads.{Read, names_of, follows};
 
-use crate::lines::{action_in, delay_of, sum_of_delays, test_in};
-use crate::placed::Placed;
+use crate::field::Field;
+use crate::lines::{action_in, sum_of_delays, test_in};
+use bounded::BoundedList;
 use tables::action::Action;
-use tables::limits::{LAST_NAME, MAX_ACTIONS, MAX_DELAY, MAX_TESTS};
+use tables::code::Coded;
+use tables::codes::tags::StatementField;
+use tables::limits::{MAX_ACTIONS, MAX_DELAY, MAX_TESTS};
 use tables::refusal::Refusal;
 use tables::statement::{Mark, Name, Statement};
-use tables::test::JoinedTest;
-
-/// The tags of a statement's fields, in their order.
-pub(crate) const NAME: u8 = 16;
-
-pub(crate) const MARK: u8 = 17;
-
-pub(crate) const TEST: u8 = 18;
-
-pub(crate) const THEN_ACTION: u8 = 19;
-
-pub(crate) const ELSE_ACTION: u8 = 20;
+use tables::test::{Join, JoinedTest};
 
 /// Whether one of these statements has this name.
-pub(crate) fn is_named(statements: &[Statement], name: u8) -> bool
-    ensures { result ≡ member name (names_of statements.now) }
+pub(crate) fn is_named(statements: &[Statement], name: Name) -> bool
+    ensures { result ≡ member name.0 (names_of statements.now) }
 {
-    for statement in statements {
-        if statement.name.0 == name {
-            return true;
-        }
-    }
-    false
+    statements.iter().any(|statement| name == statement.name)
 }
 
-pub(crate) fn read_name(
-    above: &[Statement],
-    place: usize,
-    last: u8,
-    body: &[u8],
-) -> Result<Placed<Name>, Refusal>
-    ensures { Read place (name_rules (names_of above.now) last body.now) (λ v. v.0 ≡ name_in body.now) result }
+/// A name that none of the statements above has.
+#[tactic(auto, using(std::proofs::lemmas::Bool::Decides::nat_tests), unfolding(crate::specs::Statements::name_rules))]
+pub(crate) fn read_name(above: &[Statement], field: &Field<StatementField>) -> Result<Name, Refusal>
+    ensures { let f = field.now in Read f.place
+        (name_rules (names_of above.now) (tag_before statement_tag f.before) f.body.now)
+        (λ v. v.0 ≡ name_in f.body.now) result }
 {
-    if last != 0 || body.len() != 1 {
-        return Err(Refusal::NotDue(place));
-    }
-    let name = body[0];
-    if name < 1 || name > LAST_NAME {
-        return Err(Refusal::OutOfRange(place));
-    }
-    if is_named(above, name) {
-        return Err(Refusal::Conflicting(place));
-    }
-    Ok(Placed {
-        place,
-        value: Name(name),
-    })
-}
-
-pub(crate) fn read_mark(place: usize, last: u8, body: &[u8]) -> Result<Placed<Mark>, Refusal>
-    ensures { Read place (mark_rules last body.now) (λ v. mark_in body.now ≡ Some v) result }
-{
-    if last != NAME || body.len() != 1 {
-        return Err(Refusal::NotDue(place));
-    }
-    match Mark::from_code(body[0]) {
-        Some(value) => Ok(Placed { place, value }),
-        None => Err(Refusal::OutOfRange(place)),
-    }
-}
-
-pub(crate) fn read_test(
-    place: usize,
-    last: u8,
-    nth: usize,
-    body: &[u8],
-) -> Result<Placed<JoinedTest>, Refusal>
-    ensures { Read place (test_rules last nth body.now) (λ v. test_in body.now ≡ Some v) result }
-{
-    if last < NAME || last > TEST || body.len() != 7 {
-        return Err(Refusal::NotDue(place));
-    }
-    if nth >= MAX_TESTS {
-        return Err(Refusal::TooMany(place));
-    }
-    let opens = body[0] == 0;
-    match test_in(body) {
-        Some(value) if opens == (nth == 0) => Ok(Placed { place, value }),
-        _ => Err(Refusal::OutOfRange(place)),
-    }
-}
-
-pub(crate) fn read_action(
-    place: usize,
-    due: bool,
-    above: &[Action],
-    body: &[u8],
-) -> Result<Placed<Action>, Refusal>
-    requires { length above.now ≤ max_actions }
-    ensures { Read place (action_rules due above.now body.now) (λ v. action_in body.now ≡ Some v) result }
-{
-    if !due || body.len() != 4 {
-        return Err(Refusal::NotDue(place));
-    }
-    if above.len() >= MAX_ACTIONS {
-        return Err(Refusal::TooMany(place));
-    }
-    let Some(value) = action_in(body) else {
-        return Err(Refusal::OutOfRange(place));
+    let [name] = *field.body_if_due::<1>(field.before.is_none())?;
+    let Ok(name) = Name::try_from(u16::from(name)) else {
+        return Err(Refusal::OutOfRange(field.place));
     };
-    if sum_of_delays(above) + u32::from(delay_of(value).0) > u32::from(MAX_DELAY) {
-        return Err(Refusal::DelaysTooLong(place));
+    if is_named(above, name) {
+        return Err(Refusal::Conflicting(field.place));
     }
-    Ok(Placed { place, value })
+    Ok(name)
+}
+
+/// A mark, right after the name.
+#[tactic(auto, using(std::proofs::lemmas::Bool::Decides::nat_tests), unfolding(crate::specs::Statements::mark_rules))]
+pub(crate) fn read_mark(field: &Field<StatementField>) -> Result<Mark, Refusal>
+    ensures { let f = field.now in Read f.place
+        (mark_rules (tag_before statement_tag f.before) f.body.now)
+        (λ v. mark_in f.body.now ≡ Some v) result }
+{
+    let [mark] = *field.body_if_due::<1>(field.before == Some(StatementField::Name))?;
+    Mark::with_code(mark).ok_or(Refusal::OutOfRange(field.place))
+}
+
+/// Adds what was read from the field at this place to a list, or refuses it where the list is full.
+pub(crate) fn add<T: Copy, const N: usize>(
+    list: &mut BoundedList<T, N>,
+    item: T,
+    place: usize,
+) -> Result<(), Refusal>
+    ensures { MatchResult result
+        (λ _. held list.new ≡ held list.old ++ item ∷ [])
+        (λ e. (N ≤ length (held list.old)) × (e ≡ Refusal.TooMany place)) }
+{
+    list.push(item).map_err(|_| Refusal::TooMany(place))
+}
+
+// Whether a test begins the IF of its statement.
+fn begins(join: Join) -> bool
+    ensures { result ≡ begins join }
+{
+    matches!(join, Join::First)
+}
+
+/// Adds a test to those above it.
+#[tactic(auto, using(std::proofs::lemmas::Bool::Decides::nat_tests, crate::proofs::KeptTests::begins_by_code), unfolding(crate::specs::Statements::test_rules))]
+pub(crate) fn add_test(
+    tests: &mut BoundedList<JoinedTest, MAX_TESTS>,
+    field: &Field<StatementField>,
+) -> Result<(), Refusal>
+    requires { field.now.kind ≡ StatementField.Test }
+    ensures { let f = field.now in Read f.place
+        (test_rules (tag_before statement_tag f.before) (length (held tests.old)) f.body.now)
+        (λ _. held tests.new ≡ held tests.old ++ listed (test_in f.body.now)) result }
+{
+    let body = field.body_if_due(field.follows(StatementField::Name))?;
+    if tests.len() >= MAX_TESTS {
+        return Err(Refusal::TooMany(field.place));
+    }
+    let test = test_in(body).ok_or(Refusal::OutOfRange(field.place))?;
+    if begins(test.join) != (tests.len() == 0) {
+        return Err(Refusal::OutOfRange(field.place));
+    }
+    add(tests, test, field.place)
+}
+
+/// Adds an action to those of its branch above it.
+#[tactic(auto, using(std::proofs::lemmas::Bool::Decides::nat_tests), unfolding(crate::specs::Statements::action_rules))]
+pub(crate) fn add_action(
+    actions: &mut BoundedList<Action, MAX_ACTIONS>,
+    field: &Field<StatementField>,
+) -> Result<(), Refusal>
+    ensures { let f = field.now in Read f.place
+        (action_rules (follows statement_tag StatementField.Test f) (held actions.old) f.body.now)
+        (λ _. held actions.new ≡ held actions.old ++ listed (action_in f.body.now)) result }
+{
+    let body = field.body_if_due(field.follows(StatementField::Test))?;
+    if actions.len() >= MAX_ACTIONS {
+        return Err(Refusal::TooMany(field.place));
+    }
+    let action = action_in(body).ok_or(Refusal::OutOfRange(field.place))?;
+    add(actions, action, field.place)?;
+    if sum_of_delays(actions) > u32::from(MAX_DELAY) {
+        return Err(Refusal::DelaysTooLong(field.place));
+    }
+    Ok(())
 }

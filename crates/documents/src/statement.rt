@@ -1,19 +1,17 @@
 // A statement from the body of its field.
-ghost use Rattle.std.specs.Prelude.{◌≡◌, ◌+◌, ◌^◌, ◌<◌, ◌≤◌, ◌&&◌, [], ◌∷◌, ◌++◌, length, Some, None, MatchResult, nat_le};
-ghost use Rattle.bounded.specs.Held.{held};
+ghost use Rattle.std.specs.Prelude.{◌≡◌, ◌+◌, [], Some, None, MatchResult};
 ghost use Rattle.tables.specs.Refusals.{told};
 ghost use Rattle.tables.specs.Rows.{statement_row};
 ghost use Rattle.documents.specs.Fields.{pieces};
 ghost use Rattle.documents.specs.Statements.{statement_fault, statement_in};
 ghost use Rattle.documents.specs.Reads.{names_of, Taken};
 
-use crate::field::next_field;
-use crate::parts::{
-    ELSE_ACTION, MARK, NAME, TEST, THEN_ACTION, read_action, read_mark, read_name, read_test,
-};
-use crate::placed::Placed;
+use crate::field::{Field, HEAD};
+use crate::fields::Fields;
+use crate::parts::{add_action, add_test, read_mark, read_name};
 use bounded::BoundedList;
 use tables::action::Action;
+use tables::codes::tags::{DocumentField, StatementField};
 use tables::place::State;
 use tables::refusal::Refusal;
 use tables::statement::{Mark, Name, Statement};
@@ -43,83 +41,40 @@ pub(crate) fn unread() -> Statement
     }
 }
 
-/// Adds what was read to a list, or refuses it where the list is full.
-pub(crate) fn add<T: Copy, const N: usize>(
-    list: &mut BoundedList<T, N>,
-    item: Placed<T>,
-) -> Result<(), Refusal>
-    ensures { MatchResult result (λ _. held list.new ≡ held list.old ++ item.value ∷ []) (λ _. N ≤ length (held list.old)) }
-{
-    match list.push(item.value) {
-        Ok(()) => Ok(()),
-        Err(_) => Err(Refusal::TooMany(item.place)),
-    }
-}
-
-/// Whether the field before is one of these tags, from the first to the last.
-pub(crate) fn follows(from: u8, to: u8, last: u8) -> bool
-    ensures { result ≡ (nat_le from last && nat_le last to) }
-{
-    last >= from && last <= to
-}
-
-/// Takes one field of a statement's body into the statement.
+// Takes one field of a statement's body into the statement.
 fn take_part(
-    s: &mut Statement,
+    statement: &mut Statement,
     above: &[Statement],
-    place: usize,
-    last: u8,
-    tag: u8,
-    body: &[u8],
+    field: &Field<StatementField>,
 ) -> Result<(), Refusal>
-    ensures { Taken (names_of above.now) place last tag body.now s.old s.new result }
+    ensures { Taken (names_of above.now) field.now statement.old statement.new result }
 {
-    match tag {
-        NAME => s.name = read_name(above, place, last, body)?.value,
-        MARK => s.mark = read_mark(place, last, body)?.value,
-        TEST => {
-            let test = read_test(place, last, s.tests.len(), body)?;
-            add(&mut s.tests, test)?;
-        }
-        THEN_ACTION => {
-            let due = follows(TEST, THEN_ACTION, last);
-            let action = read_action(place, due, s.then_actions.as_slice(), body)?;
-            add(&mut s.then_actions, action)?;
-        }
-        ELSE_ACTION => {
-            let due = follows(TEST, ELSE_ACTION, last);
-            let action = read_action(place, due, s.else_actions.as_slice(), body)?;
-            add(&mut s.else_actions, action)?;
-        }
-        _ => return Err(Refusal::NotDue(place)),
+    match field.kind {
+        StatementField::Name => statement.name = read_name(above, field)?,
+        StatementField::Mark => statement.mark = read_mark(field)?,
+        StatementField::Test => add_test(&mut statement.tests, field)?,
+        StatementField::ThenAction => add_action(&mut statement.then_actions, field)?,
+        StatementField::ElseAction => add_action(&mut statement.else_actions, field)?,
     }
     Ok(())
 }
 
-/// The statement whose field stands at `place`, from the field's body.
+/// The statement in a field, where these statements stand above it.
 pub(crate) fn read_statement(
     above: &[Statement],
-    place: usize,
-    body: &[u8],
+    field: &Field<DocumentField>,
 ) -> Result<Statement, Refusal>
-    requires { place + 3 + length body.now < 2 ^ 64 }
-    ensures { MatchResult result
-        (λ s. (statement_fault (names_of above.now) place body.now ≡ None) × (statement_row s ≡ statement_in (pieces (place + 3) 0 body.now)))
-        (λ e. statement_fault (names_of above.now) place body.now ≡ Some (told e)) }
+    ensures { let f = field.now in MatchResult result
+        (λ s. (statement_fault (names_of above.now) f.place f.body.now ≡ None) × (statement_row s ≡ statement_in (pieces (f.place + 3) 0 f.body.now)))
+        (λ e. statement_fault (names_of above.now) f.place f.body.now ≡ Some (told e)) }
 {
-    let mut s = unread();
-    let mut last = 0;
-    let mut here = place + 3;
-    let mut rest = body;
-    while !rest.is_empty() {
-        let f = next_field(here, rest)?;
-        take_part(&mut s, above, here, last, f.tag, f.body)?;
-        last = f.tag;
-        here += 3 + f.body.len();
-        rest = f.rest;
+    let mut statement = unread();
+    for part in Fields::new(field.place + HEAD, field.body) {
+        take_part(&mut statement, above, &part?)?;
     }
-    if last < TEST {
-        return Err(Refusal::NotDue(place));
+    // It needs a name and a test, and the test comes second.
+    if statement.tests.len() == 0 {
+        return Err(Refusal::NotDue(field.place));
     }
-    Ok(s)
+    Ok(statement)
 }

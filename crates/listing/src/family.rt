@@ -1,4 +1,4 @@
-// What the families are called, in a test and in an action.
+// What the families are called, in a test and in an action: fixed texts, as in `words`.
 ghost use Rattle.std.specs.Prelude.{◌≡◌};
 ghost use Rattle.listing.specs.Families.{family_tested, family_set};
 
@@ -56,10 +56,6 @@ pub fn family_set(family: Family) -> &'static str
         Family::OverlapGreen => "OVLP GREEN",
         Family::OverlapYellow => "OVLP YELLOW",
         Family::OverlapRed => "OVLP RED",
-        Family::LoadSwitchGreen => "LDSW GRN/WLK",
-        Family::LoadSwitchYellow => "LDSW YEL/PCLR",
-        Family::LoadSwitchRed => "LDSW RED/DW",
-        Family::PhaseTiming => "PHASE TIMING",
         Family::VehicleCheck => "PHASE CHECK",
         Family::PedCheck => "PHASE PED CHECK",
         Family::VehicleDetector => "VEH DET",
@@ -67,15 +63,7 @@ pub fn family_set(family: Family) -> &'static str
         Family::Hold => "PHASE HOLD",
         Family::Omit => "PHASE OMIT",
         Family::PedOmit => "PHASE PED OMIT",
-        Family::InhibitMax => "INHIBIT MAX RING",
-        Family::MaxTwo => "MAX 2 RING",
-        Family::MaxThree => "MAX 3 RING",
-        Family::OmitRedClear => "OMIT RED CLR RING",
-        Family::RedRest => "RED REST RING",
-        Family::PedRecycle => "PED RECYCLE RING",
-        Family::ForceOff => "FORCE OFF RING",
-        Family::StopTime => "STOP TIME RING",
-        Family::Alarm => "ALARM",
-        Family::PreemptCall => "PREEMPT INPUT",
+        // The others are called the same in both.
+        _ => family_tested(family),
     }
 }

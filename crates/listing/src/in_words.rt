@@ -5,7 +5,8 @@ ghost use Rattle.listing.specs.Each.{each_text};
 
 use std::fmt;
 
-/// What can be put into the words of an engineer.
+/// What can be put into the words of an engineer. The parts of a table are types of another crate, so that `Display` cannot be
+/// theirs here: `InWords` has it for them.
 pub trait Worded {
     ghost worded: { Self → List ℕ };
 

@@ -1,4 +1,5 @@
-// What the numbers of a frame are called: a label, and behind it the ring or the detector where the number has one.
+// What the numbers of a frame are called: a label, and behind it the ring or the detector where the number has one. The labels
+// are fixed texts, as in `words`.
 ghost use Rattle.std.specs.Prelude.{◌≡◌};
 ghost use Rattle.listing.specs.Numbers.{timer_label, number_label, number_index, number_text};
 
@@ -58,10 +59,8 @@ pub fn number_index(number: Number) -> Option<u8>
     ensures { result ≡ number_index number }
 {
     match number {
-        Number::RingTimer(ring, _) => Some(ring.code()),
-        Number::SplitTimer(ring) => Some(ring.code()),
-        Number::Volume(detector) => Some(detector),
-        Number::Occupancy(detector) => Some(detector),
+        Number::RingTimer(ring, _) | Number::SplitTimer(ring) => Some(ring.code()),
+        Number::Volume(detector) | Number::Occupancy(detector) => Some(detector),
         _ => None,
     }
 }

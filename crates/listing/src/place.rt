@@ -1,4 +1,4 @@
-// Cells by their code, and flags.
+// Cells by their code, and flags. The label is a fixed text, as in `words`.
 ghost use Rattle.std.specs.Prelude.{◌≡◌};
 ghost use Rattle.listing.specs.Lines.{place_label, place_text};
 

@@ -39,7 +39,7 @@ impl Worded for Test {
                     "{} {} {}",
                     InWords(&number),
                     comparison_label(comparison),
-                    entry.value()
+                    u16::from(entry)
                 )
             }
         }

@@ -1,4 +1,5 @@
-// The words of single values: a state, a join, a comparison, a mark.
+// The words of single values: a state, a join, a comparison, a mark. Each is one fixed text, so that a function gives it as it
+// is; `Worded` would wrap the value in `InWords` wherever it is printed, and a family has two texts.
 ghost use Rattle.std.specs.Prelude.{◌≡◌};
 ghost use Rattle.listing.specs.Words.{state_text, join_text, comparison_text, mark_text};
 

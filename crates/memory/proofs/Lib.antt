@@ -1,3 +1,3 @@
+pub mod Made
 pub mod Packing
-pub mod Reading
 pub mod Alike

@@ -1,5 +1,5 @@
 // The flags.
-ghost use Rattle.std.specs.Prelude.{◌≡◌, ℕ, ◌*◌, ◌<◌, Bool, false, List, length, take, drop, replicate, IfSome, Decides, slice_index_or};
+ghost use Rattle.std.specs.Prelude.{◌≡◌, ℕ, ◌<◌, Bool, false, List, length, replicate, IfSome, slice_index_or};
 ghost use Rattle.tables.specs.Limits.{last_flag};
 ghost use Rattle.tables.specs.declared.place.Place.TheVariants.{Flag};
 ghost use Rattle.cells.specs.Bits.{bit};
@@ -7,7 +7,7 @@ ghost use Rattle.cells.specs.Cells.{is_on, state_when, packed_cell};
 ghost use Rattle.rules.specs.Memory.{location, place_on, place_set};
 ghost use Rattle.memory.specs.Flags.{flags_in, places_of, flag_location, flag_bytes};
 
-use cells::states::{is_on, state_when};
+use std::array;
 use tables::limits::LAST_FLAG;
 use tables::place::State;
 
@@ -18,7 +18,7 @@ pub const FLAGS: usize = LAST_FLAG as usize;
 pub const FLAG_BYTES: usize = FLAGS / 8;
 
 /// The 64 flags, each ON or OFF; flag 1 is the first.
-#[derive(Clone, Copy)]
+#[derive(Clone, Copy, PartialEq, Eq)]
 pub struct FlagTable {
     on: [bool; FLAGS],
 }
@@ -29,30 +29,19 @@ fn position(flag: u8) -> Option<usize>
     ensures inside { IfSome result (λ at. at < last_flag) }
 {
     match flag {
-        1..=LAST_FLAG => Some(flag as usize - 1),
+        1..=LAST_FLAG => Some(usize::from(flag) - 1),
         _ => None,
     }
 }
 
-// The eight flags of one byte.
-fn eight(flags: &[bool], byte: usize) -> &[bool]
-    requires { (length flags.now ≡ last_flag) × (byte < flag_bytes) }
-    ensures full { length result.now ≡ 8 }
-    ensures value { result.now ≡ take 8 (drop (8 * byte) flags.now) }
-{
-    &flags[8 * byte..8 * byte + 8]
-}
-
-// Eight flags as a byte, the first in the lowest bit.
+// Eight flags as a byte, the first in the lowest bit. A fold would say the same with the byte so far as one more name.
 fn packed(flags: &[bool]) -> u8
     requires { length flags.now ≡ 8 }
     ensures { (k : ℕ) → k < 8 → bit result k ≡ slice_index_or flags.now k false }
 {
     let mut byte: u8 = 0;
     for (k, on) in flags.iter().enumerate() {
-        if *on {
-            byte |= 1 << k;
-        }
+        byte |= u8::from(*on) << k;
     }
     byte
 }
@@ -77,7 +66,7 @@ impl FlagTable {
         ensures { (cells : List Bool) → result ≡ state_when (place_on (places_of cells self.now) (Flag flag)) }
     {
         match position(flag) {
-            Some(at) => state_when(self.on[at]),
+            Some(at) => State::from(self.on[at]),
             None => State::Off,
         }
     }
@@ -87,7 +76,7 @@ impl FlagTable {
         ensures { (cells : List Bool) → places_of cells self.new ≡ place_set (Flag flag) (is_on state) (places_of cells self.old) }
     {
         if let Some(at) = position(flag) {
-            self.on[at] = is_on(state);
+            self.on[at] = bool::from(state);
         }
     }
 
@@ -97,17 +86,6 @@ impl FlagTable {
         ensures whole { length (flags_in self.now) ≡ last_flag }
         ensures bits { (i : ℕ) → i < last_flag → packed_cell result i ≡ slice_index_or (flags_in self.now) i false }
     {
-        let mut bytes = [0; FLAG_BYTES];
-        for i in 0..FLAG_BYTES {
-            bytes[i] = packed(eight(&self.on, i));
-        }
-        bytes
-    }
-
-    /// Whether two tables have the same flags ON.
-    pub fn same(&self, other: &FlagTable) -> bool
-        ensures { Decides result (flags_in self.now ≡ flags_in other.now) }
-    {
-        self.on == other.on
+        array::from_fn(|i| packed(&self.on[8 * i..8 * i + 8]))
     }
 }

@@ -11,8 +11,7 @@ ghost use Rattle.processor.specs.States.{state};
 use crate::parts::Processor;
 use cells::store::CellStore;
 use documents::document::{empty_table, read_document};
-use memory::flags::FlagTable;
-use memory::rows::WaitTable;
+use scanning::turn::Memory;
 use tables::refusal::Refusal;
 use tables::table::Table;
 use writing::table::{write_order, write_table};
@@ -22,23 +21,10 @@ impl<S: CellStore> Processor<S> {
     pub fn new(store: S) -> Self
         ensures { state S.cells result ≡ fresh (table_in []) }
     {
-        let mut store = store;
-        store.clear();
         Processor {
             table: empty_table(),
-            flags: FlagTable::new(),
-            waits: WaitTable::new(),
-            store,
+            memory: Memory::new(store),
         }
-    }
-
-    // Turns all cells and flags OFF, and makes every name hold no branch.
-    pub(crate) fn clear(&mut self)
-        ensures { state S.cells self.new ≡ fresh (state S.cells self.old).table }
-    {
-        self.store.clear();
-        self.flags.clear();
-        self.waits.clear();
     }
 
     /// Takes a table that was read: it replaces the one before, all else is as after a restart, and the answer is how many
@@ -48,7 +34,7 @@ impl<S: CellStore> Processor<S> {
         ensures after { state S.cells self.new ≡ fresh (rows_of table) }
     {
         self.table = table;
-        self.clear();
+        self.memory.clear();
         self.statement_count()
     }
 

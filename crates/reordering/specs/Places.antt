@@ -1,20 +1,8 @@
 -- Where a name stands.
 use Rattle.std.specs.Prelude.{◌≡◌, ℕ, ◌<◌, true, false, List, map, length, take, Some, None, Option, slice_index_or}
 use Rattle.tables.specs.declared.statement.Statement.{Statement}
-use Rattle.tables.specs.Lists.{Among}
 use Rattle.tables.specs.Rows.{statement_row}
 use Rattle.rules.specs.Calls.{has_name}
-
--- a number stands at a place of a list, counted from 0, and nowhere above it
-pub record FirstAt (numbers : List ℕ) (n place : ℕ) : Type 0 where
-  pub within : place < length numbers
-  pub here : slice_index_or numbers place 0 ≡ n
-  pub none_above : Among n (take place numbers) → ⊥
-
--- the first place of a number, or none if it is not in the list
-abbrev pub Position : List ℕ → ℕ → Option ℕ → Type 0
-Position numbers n None = Among n numbers → ⊥
-Position numbers n (Some place) = FirstAt numbers n place
 
 -- The first statement of a name stands at a place, counted from 0.
 pub record StandsAt (statements : List Statement) (name place : ℕ) : Type 0 where

@@ -1,12 +1,13 @@
 // Where the statement of a name stands.
 ghost use Rattle.reordering.specs.Places.{Found};
 
-use crate::named::position;
 use tables::statement::{Name, Statement};
 
 /// The place, counted from 0, of the first statement of a name; none if no statement has that name.
 pub fn find(statements: &[Statement], name: Name) -> Option<usize>
     ensures { Found statements.now name.0 result }
 {
-    position(statements, name)
+    statements
+        .iter()
+        .position(|statement| statement.name == name)
 }

@@ -4,4 +4,3 @@
 #![tactic(auto)]
 
 pub mod by_name;
-mod named;

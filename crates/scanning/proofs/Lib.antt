@@ -1,5 +1,3 @@
 pub mod Loops
 pub mod EnabledOnes
-pub mod Spans
-pub mod KeptRules
 pub mod Waits

@@ -1,3 +1,3 @@
 pub mod EnabledNames
 pub mod Memories
-pub mod Waiting
+pub mod Scans

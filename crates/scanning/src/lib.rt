@@ -3,11 +3,10 @@
 // or of the processor that owns the parts. Nothing in it allocates.
 #![tactic(auto)]
 
-pub(crate) mod acting;
-pub mod enabling;
+pub mod acting;
+pub(crate) mod enabling;
 pub mod frame;
 pub mod left;
-pub mod names;
-pub(crate) mod places;
-pub mod testing;
+pub mod places;
+pub mod scan;
 pub mod turn;

@@ -1,5 +1,5 @@
 // One step over a store.
-ghost use Rattle.std.specs.Prelude.{◌≡◌, take};
+ghost use Rattle.std.specs.Prelude.{◌≡◌};
 ghost use Rattle.store_steps.specs.Steps.{cells_after, step_answer};
 
 use crate::snapshot::snapshot;
@@ -8,6 +8,7 @@ use cells::store::CellStore;
 use tables::place::{Buffer, State};
 
 /// A step over a store, beside a frame of cell bytes.
+// Not a closure: a caller writes down a list of steps, does it in several stores, and prints it.
 #[derive(Clone, Copy)]
 pub enum Step {
     Clear,
@@ -24,17 +25,6 @@ pub struct Outcome {
     pub cells: [bool; CELLS],
 }
 
-// The first bytes of a frame, so many as there are up to `count`.
-fn front(frame: &[u8], count: usize) -> &[u8]
-    ensures { result.now ≡ take count frame.now }
-{
-    if count < frame.len() {
-        &frame[0..count]
-    } else {
-        frame
-    }
-}
-
 // Does a step, and says what it answers.
 fn apply<S: CellStore>(store: &mut S, frame: &[u8], step: Step) -> Option<State>
     ensures meaning { S.cells store.new ≡ cells_after (S.cells store.old) frame.now step }
@@ -42,7 +32,7 @@ fn apply<S: CellStore>(store: &mut S, frame: &[u8], step: Step) -> Option<State>
 {
     match step {
         Step::Clear => store.clear(),
-        Step::Take(count) => store.take(front(frame, count)),
+        Step::Take(count) => store.take(&frame[..count.min(frame.len())]),
         Step::Read(buffer, code) => return Some(store.read(buffer, code)),
         Step::Write(buffer, code, state) => store.write(buffer, code, state),
     }

@@ -6,15 +6,17 @@ mod frame;
 mod words;
 
 use cells::forcing::ForcingStore;
-use cells::layout::{CELL_BYTES, CELLS};
+use cells::layout::{CELL_BYTES, CELLS, Position};
 use cells::packed::PackedImage;
 use cells::store::CellStore;
 use frame::FRAME;
+use listing::in_words::InWords;
+use listing::words::state_label;
 use std::io;
 use store_steps::step::{Step, perform};
 use tables::limits::{INPUT_CELLS, OUTPUT_CELLS};
 use tables::place::{Buffer, State};
-use words::{StepWords, buffer_name, state_name};
+use words::StepWords;
 
 const STEPS: [Step; 15] = [
     Step::Read(Buffer::Input, 0),
@@ -37,15 +39,10 @@ const STEPS: [Step; 15] = [
 // Prints the cells that are ON.
 fn print_on(rt: &HostRuntime, cells: &[bool; CELLS]) -> io::Result<()> {
     print!(rt; "    ON:")?;
-    let inputs = INPUT_CELLS as usize;
-    for position in 0..CELLS {
-        if cells[position] {
-            if position < inputs {
-                print!(rt; " CIB {position}")?;
-            } else {
-                let code = position - inputs;
-                print!(rt; " COB {code}")?;
-            }
+    for (index, on) in cells.iter().enumerate() {
+        if *on {
+            let (buffer, code) = Position::nth(index).cell();
+            print!(rt; " {}", InWords(&buffer.cell(code)))?;
         }
     }
     println!(rt; "")
@@ -57,10 +54,7 @@ fn drive<S: CellStore>(rt: &HostRuntime, store: &mut S) -> io::Result<()> {
         let outcome = perform(store, &FRAME, step);
         let words = StepWords(step);
         match outcome.answer {
-            Some(state) => {
-                let state = state_name(state);
-                println!(rt; "  {words}: {state}")?
-            }
+            Some(state) => println!(rt; "  {words}: {}", state_label(state))?,
             None => println!(rt; "  {words}")?,
         }
         print_on(rt, &outcome.cells)?;
@@ -75,13 +69,10 @@ fn print_forced(
     buffer: Buffer,
     code: u16,
 ) -> io::Result<()> {
-    let name = buffer_name(buffer);
+    let cell = buffer.cell(code);
     match store.forced(buffer, code) {
-        Some(state) => {
-            let state = state_name(state);
-            println!(rt; "  {name} {code} is forced {state}")
-        }
-        None => println!(rt; "  {name} {code} is not forced"),
+        Some(state) => println!(rt; "  {} is forced {}", InWords(&cell), state_label(state)),
+        None => println!(rt; "  {} is not forced", InWords(&cell)),
     }
 }
 

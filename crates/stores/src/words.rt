@@ -1,23 +1,8 @@
-// Steps and cells in words.
+// Steps in words.
+use listing::in_words::InWords;
+use listing::words::state_label;
 use std::fmt;
 use store_steps::step::Step;
-use tables::place::{Buffer, State};
-
-/// The short name of a buffer.
-pub fn buffer_name(buffer: Buffer) -> &'static str {
-    match buffer {
-        Buffer::Input => "CIB",
-        Buffer::Output => "COB",
-    }
-}
-
-/// ON or OFF.
-pub fn state_name(state: State) -> &'static str {
-    match state {
-        State::Off => "OFF",
-        State::On => "ON",
-    }
-}
 
 /// What a step does, in words.
 #[derive(Drop)]
@@ -28,14 +13,10 @@ impl fmt::Display for StepWords {
         match self.0 {
             Step::Clear => write!(f, "clear"),
             Step::Take(count) => write!(f, "take {count} bytes"),
-            Step::Read(buffer, code) => {
-                let name = buffer_name(buffer);
-                write!(f, "read {name} {code}")
-            }
+            Step::Read(buffer, code) => write!(f, "read {}", InWords(&buffer.cell(code))),
             Step::Write(buffer, code, state) => {
-                let name = buffer_name(buffer);
-                let state = state_name(state);
-                write!(f, "write {name} {code} {state}")
+                let cell = buffer.cell(code);
+                write!(f, "write {} {}", InWords(&cell), state_label(state))
             }
         }
     }

@@ -1,15 +1,9 @@
 -- What a code stands for: found from the front, and the inverse of giving the code.
-use Rattle.std.proofs.Common.{◌≡◌, ℕ, zero, suc, ◌+◌, ◌<◌, ◌≤◌, Bool, true, cond, not, eqb, leb, List, [], ◌∷◌, ◌++◌, map, length, get_or, drop, Some, None, sym, refl, ap, ◌∙◌, subst, inl, inr, ⊎_elim, arith}
+use Rattle.std.proofs.Common.{◌≡◌, ℕ, zero, suc, ◌+◌, ◌<◌, ◌≤◌, Bool, true, not, eqb, leb, List, [], ◌∷◌, ◌++◌, map, Some, None, sym, refl, ap, ◌∙◌, subst, inl, inr, ⊎_elim, arith}
 use Rattle.std.specs.List.{range_with_len, flat_map}
-use Rattle.std.proofs.lemmas.List.{at_drop_more}
 use Rattle.std.proofs.lemmas.Bool.{cases_Bool, cond-true, cond-false, eqb-true, leb-true, eq-eqb, ne_eqb, and_parts, not-true, both_ways, cases_order}
 use Rattle.tables.specs.Lists.{Among, member, distinct, every}
 use Rattle.tables.specs.Decoded.{decoded}
-
--- one case further
-pub decoded_more : {X : Type 0} (coded : X → ℕ) (all : List X) (i : ℕ) (x : X) (c : ℕ) → i < length all → x ≡ get_or all i x → decoded coded (drop i all) c ≡ cond (eqb (coded x) c) (Some x) (decoded coded (drop (i + 1) all) c)
-decoded_more coded all i x c h is =
-    at_drop_more (λ l. decoded coded l c) all i x h ∙ ap (λ y. cond (eqb (coded y) c) (Some y) (decoded coded (drop (i + 1) all) c)) (sym is)
 
 module _ {X : Type 0} (coded : X → ℕ) where
   -- what a code stands for has that code

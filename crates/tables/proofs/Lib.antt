@@ -6,3 +6,4 @@ pub mod Parts
 pub mod Inverse
 pub mod Spans
 pub mod Marking
+pub mod EachCell

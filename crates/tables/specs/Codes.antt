@@ -1,5 +1,5 @@
 -- The codes of a table document, and what each stands for.
-use Rattle.std.specs.Prelude.{ℕ, ◌+◌, ◌*◌, ◌/◌, ◌%◌, cond, ◌&&◌, [], ◌∷◌, Some, None, Option, nat_le, nat_lt}
+use Rattle.std.specs.Prelude.{ℕ, ◌+◌, ◌*◌, ◌/◌, ◌%◌, cond, ◌&&◌, List, [], ◌∷◌, Some, None, Option, nat_le, nat_lt}
 use Rattle.tables.specs.declared.place.State.{State}
 use Rattle.tables.specs.declared.place.State.TheVariants.{Off, On}
 use Rattle.tables.specs.declared.place.Place.{Place}
@@ -29,9 +29,13 @@ abbrev pub state_code : State → ℕ
 state_code Off = 0
 state_code On = 1
 
+-- both states
+abbrev pub states : List State
+states = Off ∷ On ∷ []
+
 -- the state of a code
 abbrev pub state_of : ℕ → Option State
-state_of code = decoded state_code (Off ∷ On ∷ []) code
+state_of code = decoded state_code states code
 
 -- the first test of a statement has join 0; AND is 1, OR is 2
 abbrev pub join_code : Join → ℕ
@@ -39,9 +43,13 @@ join_code First = 0
 join_code And = 1
 join_code Or = 2
 
+-- all joins
+abbrev pub joins : List Join
+joins = First ∷ And ∷ Or ∷ []
+
 -- the join of a code
 abbrev pub join_of : ℕ → Option Join
-join_of code = decoded join_code (First ∷ And ∷ Or ∷ []) code
+join_of code = decoded join_code joins code
 
 -- IS, !=, > and <
 abbrev pub comparison_code : Comparison → ℕ
@@ -50,9 +58,13 @@ comparison_code IsNot = 1
 comparison_code Greater = 2
 comparison_code Less = 3
 
+-- all comparisons
+abbrev pub comparisons : List Comparison
+comparisons = Is ∷ IsNot ∷ Greater ∷ Less ∷ []
+
 -- the comparison of a code
 abbrev pub comparison_of : ℕ → Option Comparison
-comparison_of code = decoded comparison_code (Is ∷ IsNot ∷ Greater ∷ Less ∷ []) code
+comparison_of code = decoded comparison_code comparisons code
 
 -- a mark is the ASCII byte of E, D or the full stop
 abbrev pub mark_code : Mark → ℕ
@@ -60,9 +72,13 @@ mark_code Enabled = 69
 mark_code Disabled = 68
 mark_code Planned = 46
 
+-- all marks
+abbrev pub marks : List Mark
+marks = Enabled ∷ Disabled ∷ Planned ∷ []
+
 -- the mark of a byte
 abbrev pub mark_of : ℕ → Option Mark
-mark_of code = decoded mark_code (Enabled ∷ Disabled ∷ Planned ∷ []) code
+mark_of code = decoded mark_code marks code
 
 -- what a line is about
 abbrev pub kind_code : Kind → ℕ
@@ -74,9 +90,13 @@ kind_code LogicStatement = 5
 kind_code FrameNumber = 6
 kind_code DelayFor = 7
 
+-- all kinds
+abbrev pub kinds : List Kind
+kinds = Cib ∷ Cob ∷ LogicFlag ∷ FamilyMember ∷ LogicStatement ∷ FrameNumber ∷ DelayFor ∷ []
+
 -- the kind of a code
 abbrev pub kind_of : ℕ → Option Kind
-kind_of code = decoded kind_code (Cib ∷ Cob ∷ LogicFlag ∷ FamilyMember ∷ LogicStatement ∷ FrameNumber ∷ DelayFor ∷ []) code
+kind_of code = decoded kind_code kinds code
 
 -- the family of a code
 abbrev pub family_of : ℕ → Option Family

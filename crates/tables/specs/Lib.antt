@@ -1,3 +1,4 @@
+pub mod States
 pub mod Lists
 pub mod Decoded
 pub mod Limits
@@ -12,3 +13,5 @@ pub mod RefusalTexts
 pub mod Inverse
 pub mod Contents
 pub mod Spans
+pub mod EachCell
+pub mod Tags

@@ -1,25 +1,22 @@
 -- Lists and options, in the few ways in which the rules speak of them.
-use Rattle.std.specs.Prelude.{◌≡◌, ℕ, Bool, true, false, cond, not, ◌&&◌, ◌||◌, ◌⊎◌, List, [], ◌∷◌, ◌++◌, Some, None, Option, ◌==◌, nat_lt}
+use Rattle.std.specs.List.{find, list_any, list_all}
+use Rattle.std.specs.Prelude.{◌≡◌, ℕ, Bool, true, false, cond, not, ◌&&◌, ◌⊎◌, List, [], ◌∷◌, ◌++◌, Some, None, Option, ◌==◌, nat_lt}
 
 -- the first of a list that passes a test, if one does
 abbrev pub found : {X : Type 0} → (X → Bool) → List X → Option X
-found passes [] = None
-found passes (x ∷ xs) = cond (passes x) (Some x) (found passes xs)
+found = find
 
 -- some of a list passes a test
 abbrev pub some : {X : Type 0} → (X → Bool) → List X → Bool
-some passes [] = false
-some passes (x ∷ xs) = passes x || some passes xs
+some = list_any
 
 -- each of a list passes a test
 abbrev pub every : {X : Type 0} → (X → Bool) → List X → Bool
-every passes [] = true
-every passes (x ∷ xs) = passes x && every passes xs
+every = list_all
 
 -- a number is in a list
 abbrev pub member : ℕ → List ℕ → Bool
-member n [] = false
-member n (m ∷ ms) = n == m || member n ms
+member n = list_any (λ m. n == m)
 
 -- no number of a list is there twice
 abbrev pub distinct : List ℕ → Bool

@@ -33,10 +33,18 @@ impl CellSpan {
         ensures { result ≡ (if nat_lt k self.count then Some (span_cell self k) else None) }
     {
         if k < self.count {
-            Some(self.buffer.cell(self.first + self.step * u16::from(k)))
+            Some(self.nth(k))
         } else {
             None
         }
+    }
+
+    // The same, where there are more than `k` cells.
+    pub(crate) fn nth(self, k: u8) -> Place
+        requires { k < self.count }
+        ensures { result ≡ span_cell self k }
+    {
+        self.buffer.cell(self.first + self.step * u16::from(k))
     }
 }
 

@@ -50,6 +50,7 @@ pub struct Layout {
     pub whole: bool,
 }
 
+// The 0 is a document's own number for all members, and stays a number as those of members are.
 /// A member of a family, or all of them where the number is 0.
 #[derive(Clone, Copy)]
 pub struct Member {
@@ -57,6 +58,7 @@ pub struct Member {
     pub number: u8,
 }
 
+// Three layouts by name: one function of a buffer and three numbers would say less in each line of `layout`.
 impl Layout {
     // Sixteen output cells in a row.
     fn outputs(first: u16) -> Layout
@@ -120,11 +122,8 @@ impl Family {
             Family::VehicleCheck => Layout::outputs(352),
             Family::PedCheck => Layout::outputs(368),
             Family::VehicleDetector => Layout {
-                buffer: Buffer::Input,
-                first: 0,
-                members: 64,
-                step: 1,
                 whole: false,
+                ..Layout::inputs(0, 64)
             },
             Family::PedDetector => Layout::inputs(64, 16),
             Family::Hold => Layout::inputs(80, 16),

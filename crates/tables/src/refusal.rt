@@ -50,12 +50,12 @@ impl Refusal {
         ensures { result ≡ place_told (told self) }
     {
         match self {
-            Refusal::Truncated(place) => Some(place),
-            Refusal::NotDue(place) => Some(place),
-            Refusal::TooMany(place) => Some(place),
-            Refusal::OutOfRange(place) => Some(place),
-            Refusal::Conflicting(place) => Some(place),
-            Refusal::DelaysTooLong(place) => Some(place),
+            Refusal::Truncated(place)
+            | Refusal::NotDue(place)
+            | Refusal::TooMany(place)
+            | Refusal::OutOfRange(place)
+            | Refusal::Conflicting(place)
+            | Refusal::DelaysTooLong(place) => Some(place),
             _ => None,
         }
     }

@@ -36,10 +36,8 @@ impl Table {
         ensures statements { map statement_row (held self.new.statements) ≡ marked_at at mark (map statement_row (held self.old.statements)) }
         ensures plans { self.new.plans ≡ self.old.plans }
     {
-        let statements = self.statements.as_slice();
-        if at < statements.len() {
-            let mut statement = statements[at];
-            statement.mark = mark;
+        if let Some(statement) = self.statements.as_slice().get(at) {
+            let statement = Statement { mark, ..*statement };
             self.statements.replace(at, statement);
         }
     }

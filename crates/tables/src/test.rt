@@ -4,6 +4,7 @@ use crate::number::{Entry, Number};
 use crate::place::{Place, State};
 use crate::statement::Name;
 
+// Not an option of the last two: the first test has a code and a word of its own, as they have.
 /// How a test is joined to those above it.
 #[derive(Clone, Copy)]
 pub enum Join {

@@ -9,11 +9,11 @@ pub struct Tenths(pub u16);
 #[derive(Clone, Copy, PartialEq, Eq, PartialOrd, Ord)]
 pub struct Seconds(pub u8);
 
-impl Seconds {
-    /// Ten times the seconds: the only conversion between the two.
-    pub fn tenths(self) -> Tenths
-        ensures { result.0 ≡ 10 * self.0 }
-    {
-        Tenths(10 * u16::from(self.0))
+// Ten times the seconds: the only conversion between the two.
+impl From<Seconds> for Tenths {
+    ghost from_gives = { λ seconds tenths. tenths.0 ≡ 10 * seconds.0 };
+
+    fn from(seconds: Seconds) -> Tenths {
+        Tenths(10 * u16::from(seconds.0))
     }
 }

@@ -1,3 +1,2 @@
-pub mod Spans
 pub mod Searches
-pub mod Finds
+pub mod Named

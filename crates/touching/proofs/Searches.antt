@@ -1,46 +1,48 @@
--- Searches of a list from its front.
-use Rattle.std.proofs.Common.{◌≡◌, ℕ, zero, suc, ◌+◌, ◌<◌, ◌≤◌, Bool, true, false, ◌⊎◌, List, [], ◌∷◌, length, drop, Some, None, Decides, refl, subst, ⊎_elim, add-one, arith}
-use Rattle.std.specs.List.{slice_get}
-use Rattle.std.proofs.lemmas.List.{drop_all}
+-- What `any` answers, where the closure decides a fact of each item.
+use Rattle.std.proofs.Common.{◌≡◌, ℕ, zero, suc, ◌<◌, Bool, true, false, List, [], ◌∷◌, length, Decides, MatchBool, Option, sym, refl, subst, inl, inr, arith}
+use Rattle.std.specs.Fn.{Called}
+use Rattle.std.specs.Iterator.{AlwaysYields, YieldsFirst, ChecksAny}
+use Rattle.std.specs.List.{HoldsAt, AllWithin}
 use Rattle.std.proofs.lemmas.Bool.{false≢true}
 use Rattle.std.proofs.lemmas.Bool.Decides.{not_from_Decides}
+use Rattle.std.proofs.lemmas.Iterator.{YieldsList, cases_from_any}
+use denote.Param.Members.{Mut}
+use Rattle.tables.specs.Lists.{Among}
 
--- What is looked for in a list is found at its first element or looked for in the rest, and an empty list does not have it.
-pub record Search {X : Type 0} (In : List X → Type 0) (At : X → Type 0) : Type 0 where
-  pub none : In [] → ⊥
-  pub split : (x : X) (xs : List X) → In (x ∷ xs) → At x ⊎ In xs
-  pub here : (x : X) (xs : List X) → At x → In (x ∷ xs)
-  pub later : (x : X) (xs : List X) → In xs → In (x ∷ xs)
+-- some element of a list is so
+abbrev pub AnyOf : {X : Type 0} → (X → Type 0) → List X → Type 0
+AnyOf {X} At xs = (x : X) × Among x xs × At x
 
-module _ {X : Type 0} {In : List X → Type 0} {At : X → Type 0} (s : Search In At) where
-  -- what is found at an element is in the list
-  at_some : (xs : List X) (i : ℕ) (x : X) → slice_get xs i ≡ Some x → At x → In xs
-  at_some [] i x e h = let z : ◌≡◌ {A = ℕ} 0 1 = cc in absurd (omega arith)
-  at_some (y ∷ xs) zero x e h = let same : x ≡ y = cc in s.here y xs (subst At same h)
-  at_some (y ∷ xs) (suc i) x e h = s.later y xs (at_some xs i x e h)
+module _ {X : Type 0} (At : X → Type 0) where
+  -- where the element at a place is so, some element is
+  at_place : (xs : List X) (k : ℕ) → k < length xs → HoldsAt At xs k → AnyOf At xs
+  at_place [] k h holds = absurd (omega arith)
+  at_place (x ∷ xs) zero h holds = (x, inl refl, holds x)
+  at_place (x ∷ xs) (suc k) h holds = let r = at_place xs k (omega arith) holds in (r.0, inr r.1, r.2)
 
-  -- what is not found at an element is past it
-  past_one : (xs : List X) (i : ℕ) (x : X) → slice_get xs i ≡ Some x → (At x → ⊥) → In (drop i xs) → In (drop (suc i) xs)
-  past_one [] i x e n h = let z : ◌≡◌ {A = ℕ} 0 1 = cc in absurd (omega arith)
-  past_one (y ∷ xs) zero x e n h =
-      let same : y ≡ x = cc in ⊎_elim (λ a. absurd (n (subst At same a))) (λ r. r) (s.split y xs h)
-  past_one (y ∷ xs) (suc i) x e n h = past_one xs i x e n h
+  -- where the element at no place is so, none is
+  at_none : (xs : List X) → AllWithin (λ x. At x → ⊥) xs 0 (length xs) → (x : X) → Among x xs → At x → ⊥
+  at_none [] none x m a = m
+  at_none (y ∷ xs) none x (inl e) a = none 0 y (omega arith) (omega arith) (subst At (sym e) a)
+  at_none (y ∷ xs) none x (inr m) a = at_none xs (λ k d low high. none (suc k) d (omega arith) (omega arith)) x m a
 
-  -- a search that finds it at an element answers yes
-  pub found : (xs : List X) (i : ℕ) {x : X} {r : Bool} → slice_get xs i ≡ Some x → Decides r (At x) → r ≡ true → Decides true (In xs)
-  found xs i {x} e d is = ((λ _. at_some xs i x e (d.0 is)), (λ _. refl))
+  -- so the answer by places decides whether some element is so
+  decided : (xs : List X) (r : Bool) → MatchBool r ((k : ℕ) × (k < length xs) × HoldsAt At xs k) (AllWithin (λ x. At x → ⊥) xs 0 (length xs)) → Decides r (AnyOf At xs)
+  decided xs true h = ((λ _. at_place xs h.0 h.1 h.2), λ _. refl)
+  decided xs false h = ((λ e. absurd (false≢true e)), λ some. absurd (at_none xs h some.0 some.1 some.2))
 
-  -- one that does not goes on: what is in the list is yet to come
-  pub passed : (xs : List X) (i : ℕ) {x : X} {r : Bool} → slice_get xs i ≡ Some x → Decides r (At x) → r ≡ false → (In xs → In (drop i xs)) → In xs → In (drop (i + 1) xs)
-  passed xs i {x} {r} e d isnt before h = rw add-one (past_one xs i x e (not_from_Decides r d isnt) (before h))
+-- `any` answers whether some item is so
+pub any_decides : {S A B F : Type 0} {steps : S → Option A → S → Type 0} {v : A → B} {g : Mut F (A × Unit {0}) Bool} {s : S} {xs : List B} (u : S) (f : F) (r : Bool) (At : B → Type 0) → ChecksAny steps g s f r u → YieldsList steps v s xs → ((x : A) (b : Bool) (q : F) → Called g f (x, tt) b q → (q ≡ f) × Decides b (At (v x))) → Decides r (AnyOf At xs)
+any_decides {xs = xs} u f r At ran yields closure =
+    decided At xs r (cases_from_any u f r At (λ x. At x → ⊥) ran yields
+    (λ x q k. (closure x true q k).1.0 refl)
+    (λ x q k. let h = closure x false q k in (h.0, not_from_Decides false h.1 refl)))
 
-  -- at the end of the list it answers no
-  pub absent : (xs : List X) (i : ℕ) → length xs ≤ i → (In xs → In (drop i xs)) → Decides false (In xs)
-  absent xs i end before =
-      ((λ e. absurd (false≢true e)), (λ h. absurd (s.none (subst In (drop_all i xs end) (before h)))))
+module _ {S A : Type 0} (rest : S → List A) where
+  -- an iterator that shows what is left gives that
+  gives : (xs : List A) (s : S) → rest s ≡ xs → AlwaysYields (YieldsFirst rest) (λ x. x) s xs
+  gives [] s e = λ x t h. cc
+  gives (y ∷ ys) s e = ((λ t h. cc), λ x t h. (cc, gives ys t cc))
 
--- there is an element before the end of a list
-pub not_past : {X : Type 0} (xs : List X) (i : ℕ) → i < length xs → slice_get xs i ≡ None → ⊥
-not_past [] i h e = omega arith
-not_past (x ∷ xs) zero h e = let z : ◌≡◌ {A = ℕ} 0 1 = cc in omega arith
-not_past (x ∷ xs) (suc i) h e = not_past xs i (omega arith) e
+  pub YieldsList-from_rest : {s : S} (xs : List A) → rest s ≡ xs → YieldsList (YieldsFirst rest) (λ x. x) s xs
+  YieldsList-from_rest {s} xs e = record { runs = gives xs s e }

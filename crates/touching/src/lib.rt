@@ -3,6 +3,7 @@
 // scans, of marks or of the order of a table.
 #![tactic(auto)]
 
+pub mod each_place;
 pub mod line_places;
 pub mod names_places;
 pub mod sharing;

@@ -7,6 +7,7 @@ ghost use Rattle.touching.specs.Named.{places_in};
 use tables::place::Place;
 use tables::span::CellSpan;
 
+// Not an option of the last two: each match would take two steps to the same three arms.
 /// What a line names: no place, one, or the cells of a family or of one of its members.
 #[derive(Clone, Copy)]
 pub enum LinePlaces {
@@ -33,7 +34,7 @@ impl LinePlaces {
     {
         match self {
             LinePlaces::Nothing => None,
-            LinePlaces::One(place) => if k == 0 { Some(place) } else { None },
+            LinePlaces::One(place) => (k == 0).then_some(place),
             LinePlaces::Cells(span) => span.cell(k),
         }
     }
@@ -42,13 +43,6 @@ impl LinePlaces {
     pub fn includes(self, place: Place) -> bool
         ensures { Decides result (Among place (places_in self)) }
     {
-        for k in 0..self.count() {
-            if let Some(other) = self.place(k) {
-                if other == place {
-                    return true;
-                }
-            }
-        }
-        false
+        self.into_iter().any(|other| other == place)
     }
 }

@@ -34,8 +34,7 @@ impl NamesPlaces for JoinedTest {
         match self.test {
             Test::PlaceIs(place, _) => LinePlaces::One(place),
             Test::MemberIs(member, _) => LinePlaces::Cells(member.cells()),
-            Test::StatementIs(_, _) => LinePlaces::Nothing,
-            Test::NumberIs(_, _, _) => LinePlaces::Nothing,
+            Test::StatementIs(..) | Test::NumberIs(..) => LinePlaces::Nothing,
         }
     }
 }

@@ -2,10 +2,8 @@
 ghost use Rattle.std.specs.Prelude.{Decides};
 ghost use Rattle.tables.specs.Lists.{Among};
 ghost use Rattle.rules.specs.Touching.{named_by};
-ghost use Rattle.touching.specs.Named.{places_in};
 ghost use Rattle.touching.specs.Sharing.{Share};
 
-use crate::line_places::LinePlaces;
 use crate::names_places::NamesPlaces;
 use tables::place::Place;
 
@@ -13,43 +11,21 @@ use tables::place::Place;
 fn some_names<L: NamesPlaces>(lines: &[L], place: Place) -> bool
     ensures { Decides result (Among place (named_by L.NamesPlaces.named lines.now)) }
 {
-    for line in lines {
-        if line.names(place) {
-            return true;
-        }
-    }
-    false
-}
-
-// Whether some line names one of these places.
-fn some_names_one_of<L: NamesPlaces>(lines: &[L], places: LinePlaces) -> bool
-    ensures { Decides result (Share (places_in places) (named_by L.NamesPlaces.named lines.now)) }
-{
-    for k in 0..places.count() {
-        if let Some(place) = places.place(k) {
-            if some_names(lines, place) {
-                return true;
-            }
-        }
-    }
-    false
+    lines.iter().any(|line| line.names(place))
 }
 
 // Whether this line names a place that one of the others names.
 fn line_shares<X: NamesPlaces, Y: NamesPlaces>(line: &X, others: &[Y]) -> bool
     ensures { Decides result (Share (X.NamesPlaces.named line.now) (named_by Y.NamesPlaces.named others.now)) }
 {
-    some_names_one_of(others, line.places())
+    line.places()
+        .into_iter()
+        .any(|place| some_names(others, place))
 }
 
 /// Whether some place is named by a line of each list.
 pub fn share_place<X: NamesPlaces, Y: NamesPlaces>(xs: &[X], ys: &[Y]) -> bool
     ensures { Decides result (Share (named_by X.NamesPlaces.named xs.now) (named_by Y.NamesPlaces.named ys.now)) }
 {
-    for line in xs {
-        if line_shares(line, ys) {
-            return true;
-        }
-    }
-    false
+    xs.iter().any(|line| line_shares(line, ys))
 }

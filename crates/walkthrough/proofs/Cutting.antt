@@ -1,24 +1,24 @@
--- A list cut at a place that may lie past its end.
-use Rattle.std.proofs.Common.{◌≡◌, ℕ, min, List, ◌++◌, length, take, drop, sym, ap, ◌∙◌, ⊎_elim, append_assoc, arith}
-use native.Mathlib.Nat.{min-eq_left, min-eq_right}
-use Rattle.std.proofs.lemmas.List.{take_all, drop_all}
-use Rattle.std.proofs.lemmas.Bool.{cases_lt}
+-- A cut out of a list, where it may pass the list's end.
+use Rattle.std.proofs.Common.{◌≡◌, ℕ, ◌+◌, ◌-◌, min, List, ◌++◌, length, take, drop, sym, ap, ◌∙◌}
+use Rattle.std.specs.List.{splice}
+use Rattle.std.proofs.lemmas.List.{take_min, drop_min, drop-drop, length-drop}
 
-pub take_within : (n : ℕ) (xs : List ℕ) → take (min n (length xs)) xs ≡ take n xs
-take_within n xs =
-    ⊎_elim
-    (λ inside. ap (λ k. take k xs) (min-eq_left (omega arith)))
-    (λ past. ap (λ k. take k xs) (min-eq_right past) ∙ take_all (length xs) xs (omega arith) ∙ sym (take_all n xs past))
-    (cases_lt n (length xs))
+module _ (xs ys : List ℕ) (place taken start count : ℕ) (starts : start ≡ min place (length xs)) (counts : count ≡ min taken (length xs - start)) where
+  -- what lies before the cut, and what lies behind it
+  front : take start xs ≡ take place xs
+  front = ap (λ n. take n xs) starts ∙ take_min place xs
 
-pub drop_within : (n : ℕ) (xs : List ℕ) → drop (min n (length xs)) xs ≡ drop n xs
-drop_within n xs =
-    ⊎_elim
-    (λ inside. ap (λ k. drop k xs) (min-eq_left (omega arith)))
-    (λ past. ap (λ k. drop k xs) (min-eq_right past) ∙ drop_all (length xs) xs (omega arith) ∙ sym (drop_all n xs past))
-    (cases_lt n (length xs))
+  behind : drop start xs ≡ drop place xs
+  behind = ap (λ n. drop n xs) starts ∙ drop_min place xs
 
--- three lists put together in two steps, of which the first and the last are known by another name
-pub three_parts : (a a' b c c' ab abc : List ℕ) → a ≡ a' → c ≡ c' → ab ≡ a ++ b → abc ≡ ab ++ c → abc ≡ a' ++ (b ++ c')
-three_parts a a' b c c' ab abc front back first second =
-    second ∙ ap (λ (l : List ℕ). l ++ c) first ∙ append_assoc a b c ∙ (λ i. front i ++ (b ++ back i))
+  back : drop (start + count) xs ≡ drop (place + taken) xs
+  back =
+      sym (drop-drop count start xs)
+      ∙ ap (λ n. drop n (drop start xs)) (counts ∙ ap (min taken) (sym (length-drop start xs)))
+      ∙ drop_min taken (drop start xs)
+      ∙ ap (drop taken) behind
+      ∙ drop-drop taken place xs
+
+  -- a cut kept within the list is the same cut
+  pub splice_within : splice xs start (start + count) ys ≡ splice xs place (place + taken) ys
+  splice_within = ap (λ l. l ++ (ys ++ drop (start + count) xs)) front ∙ ap (λ l. take place xs ++ (ys ++ l)) back

@@ -1,6 +1,6 @@
 // Ways to damage the document.
-ghost use Rattle.std.specs.Prelude.{◌≡◌, IfOk};
-ghost use Rattle.walkthrough.specs.Damages.{replaced};
+ghost use Rattle.std.specs.Prelude.{◌≡◌, ◌+◌, IfOk};
+ghost use Rattle.std.specs.List.{splice};
 
 use std::alloc::{AllocError, Global};
 
@@ -82,14 +82,15 @@ const NINE_ACTIONS: [u8; 83] = [
     0x13, 0x00, 0x04, 0x03, 0x00, 0x05, 0x01, // 119: the ninth
 ];
 
-/// The document with that damage.
-pub fn damaged(heap: Global, document: &[u8], damage: Damage) -> Result<Vec<u8>, AllocError>
-    ensures { IfOk result (λ v. v.items ≡ replaced damage.place damage.taken damage.put.now document.now) }
-{
-    let (front, rest) = document.split_at(damage.place.min(document.len()));
-    let (_, back) = rest.split_at(damage.taken.min(rest.len()));
-    let mut bytes = Vec::from_slice(heap, front)?;
-    bytes.extend_from_slice(damage.put)?;
-    bytes.extend_from_slice(back)?;
-    Ok(bytes)
+impl Damage {
+    /// The document with that damage.
+    pub fn done_to(&self, heap: Global, document: &[u8]) -> Result<Vec<u8>, AllocError>
+        ensures { IfOk result (λ v. v.items ≡ splice document.now self.now.place (self.now.place + self.now.taken) self.now.put.now) }
+    {
+        let mut bytes = Vec::from_slice(heap, document)?;
+        let start = self.place.min(bytes.len());
+        let end = start + self.taken.min(bytes.len() - start);
+        bytes.splice(start..end, self.put.iter().copied())?;
+        Ok(bytes)
+    }
 }

@@ -7,7 +7,7 @@ mod document;
 mod round_trip;
 mod show;
 
-use damage::{DAMAGES, damaged};
+use damage::DAMAGES;
 use document::DOCUMENT;
 use round_trip::go_round;
 use show::show;
@@ -22,7 +22,7 @@ fn main(rt: HostRuntime) -> io::Result<()> {
     println!(rt; "\nDamaged copies of it are refused:\n")?;
     for damage in &DAMAGES {
         println!(rt; "{}", damage.what)?;
-        let bytes = damaged(rt.alloc(), &DOCUMENT, *damage)?;
+        let bytes = damage.done_to(rt.alloc(), &DOCUMENT)?;
         show(&rt, &bytes)?;
     }
     Ok(())

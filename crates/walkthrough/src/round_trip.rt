@@ -1,4 +1,5 @@
 // A document's table written out, compared with the document, and read again.
+// A refusal is printed where it comes, as one more thing to show: it is no failure of the program, which `?` would make of it.
 use crate::show::show_refusal;
 use documents::document::read_document;
 use std::io;

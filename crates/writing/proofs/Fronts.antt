@@ -3,6 +3,7 @@
 use Rattle.std.proofs.Common.{◌≡◌, ℕ, ◌+◌, Bool, true, false, not, eqb, ltb, leb, List, [], ◌∷◌, ◌++◌, length, sym, refl, ap, ◌∙◌, ⊎_elim, arith}
 use lib.Dec.{eqb-suc-zero}
 use Rattle.std.proofs.lemmas.List.{length-append, append-nil, append_assoc}
+use Rattle.std.proofs.lemmas.List.Folds.{list_all-append}
 use Rattle.std.proofs.lemmas.Bool.{and_parts, or_from, or_parts, or_cases, not-true, leb-true, lt-leb, le-ltb, eqb-true, eqb-false, ne_eqb}
 use Rattle.tables.specs.declared.test.JoinedTest.{JoinedTest}
 use Rattle.tables.specs.declared.action.Action.{Action}
@@ -27,8 +28,9 @@ none_behind before all is = sym (append-nil before) ∙ is
 
 -- where each passes a test, so does an element that stands behind others
 pub passes_too : {X : Type 0} (passes : X → Bool) (before : List X) (x : X) (behind : List X) → every passes (before ++ x ∷ behind) ≡ true → passes x ≡ true
-passes_too passes [] x behind each = (and_parts (passes x) (every passes behind) each).0
-passes_too passes (y ∷ before) x behind each = passes_too passes before x behind (and_parts (passes y) (every passes (before ++ x ∷ behind)) each).1
+passes_too passes before x behind each =
+    let two = and_parts (every passes before) (every passes (x ∷ behind)) (sym (list_all-append passes before (x ∷ behind)) ∙ each) in
+    (and_parts (passes x) (every passes behind) two.1).0
 
 -- where the joins are right, a test begins exactly where none is before it
 pub begins_if_first : (before : List JoinedTest) (t : JoinedTest) (behind all : List JoinedTest) → before ++ t ∷ behind ≡ all → joins_keep all ≡ true → alike (eqb (length before) 0) (begins t.join) ≡ true

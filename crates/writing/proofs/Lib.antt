@@ -1,4 +1,4 @@
-pub mod Buffers
+pub mod Writes
 pub mod Sizes
 pub mod Wholes
 pub mod WrittenFields

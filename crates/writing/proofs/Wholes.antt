@@ -6,14 +6,14 @@ use Rattle.bounded.specs.Held.{held}
 use Rattle.tables.specs.declared.statement.Statement.{Statement}
 use Rattle.tables.specs.declared.plan.Plan.{Plan}
 use Rattle.tables.specs.Rows.{name_number, row_name, statement_row, plan_row, table_rows}
-use Rattle.writing.specs.Bytes.{field_bytes, statement_body, statements_bytes, plan_bytes, table_bytes}
+use Rattle.writing.specs.Bytes.{field_bytes, fields_bytes, statement_body, statements_bytes, plan_bytes, table_bytes}
 
 -- the fields of statements and of plans as the code holds them
 abbrev pub coded_statements : List Statement → List ℕ
-coded_statements ss = flat_map (λ s. field_bytes 2 (statement_body false (statement_row s))) ss
+coded_statements ss = fields_bytes 2 (λ s. statement_body false (statement_row s)) ss
 
 abbrev pub coded_plans : List Plan → List ℕ
-coded_plans ps = flat_map (λ p. field_bytes 3 (p.number ∷ map name_number (held p.names))) ps
+coded_plans ps = fields_bytes 3 (λ p. p.number ∷ map name_number (held p.names)) ps
 
 statements_same : (ss : List Statement) → coded_statements ss ≡ statements_bytes [] (map statement_row ss)
 statements_same [] = refl

@@ -1,14 +1,7 @@
 -- What writing does to a buffer.
-use Rattle.std.specs.Prelude.{◌≡◌, ℕ, ◌+◌, ◌<◌, List, ◌++◌, length, take, drop, Result, MatchResult}
+use Rattle.std.specs.Prelude.{◌≡◌, ℕ, ◌<◌, List, ◌++◌, length, drop, Result, MatchResult}
 use Rattle.tables.specs.declared.refusal.Refusal.{Refusal}
 use Rattle.tables.specs.Refusals.{Told, told, of_bytes}
-
--- `bytes` were written into `old` from `start` on, up to `end`, and nothing else changed
-pub record Wrote (old : List ℕ) (start : ℕ) (bytes new : List ℕ) (end : ℕ) : Type 0 where
-  pub stop : end ≡ start + length bytes
-  pub front : take end new ≡ take start old ++ bytes
-  pub back : drop end new ≡ drop end old
-  pub size : length new ≡ length old
 
 -- the refusal of a buffer that is too short: 12, with the number of bytes needed
 abbrev pub short_by : ℕ → Told

@@ -2,8 +2,9 @@
 // nothing of cells, scans or processors. It never allocates.
 #![tactic(auto)]
 
-pub(crate) mod buffer;
+pub(crate) mod body;
 pub(crate) mod lines;
+pub(crate) mod output;
 pub mod promises;
 pub(crate) mod statement;
 pub mod table;

@@ -1,59 +1,24 @@
-// Names, marks, tests and actions as the bodies of fields.
-ghost use Rattle.std.specs.Prelude.{◌≡◌, ◌/◌, ◌%◌, [], ◌∷◌};
-ghost use Rattle.tables.specs.Codes.{mark_code};
-ghost use Rattle.tables.specs.Rows.{name_number};
+// Single bytes, tests and actions as the bodies of fields.
+ghost use Rattle.std.specs.Prelude.{[], ◌∷◌};
 ghost use Rattle.writing.specs.Bytes.{test_body, action_body};
 
-use crate::buffer::{Body, Named, put_bytes};
+use crate::body::Body;
+use crate::output::Output;
 use tables::action::Action;
 use tables::code::Coded;
-use tables::statement::{Mark, Name};
+use tables::codes::lines::{ActionCodes, TestCodes};
 use tables::test::JoinedTest;
 
-// The high byte of a number of two bytes.
-fn high(n: u16) -> u8
-    ensures { result ≡ n / 256 }
-{
-    (n / 256) as u8
-}
-
-// And the low one.
-fn low(n: u16) -> u8
-    ensures { result ≡ n % 256 }
-{
-    (n % 256) as u8
-}
-
-impl Named for Name {
-    ghost named = { name_number };
-
-    fn name_byte(&self) -> u8 {
-        self.0
-    }
-}
-
-impl Body for Name {
-    ghost body = { λ n. name_number n ∷ [] };
+// A name, a mark or a version.
+impl Body for u8 {
+    ghost body = { λ b. b ∷ [] };
 
     fn size(&self) -> usize {
         1
     }
 
-    fn put_body(&self, buffer: &mut [u8], at: usize) -> usize {
-        put_bytes(buffer, at, &[self.0])
-    }
-}
-
-impl Body for Mark {
-    ghost body = { λ m. mark_code m ∷ [] };
-
-    fn size(&self) -> usize {
-        1
-    }
-
-    fn put_body(&self, buffer: &mut [u8], at: usize) -> usize {
-        let mark = *self;
-        put_bytes(buffer, at, &[mark.code()])
+    fn put_body(&self, output: &mut Output) {
+        output.put(&[*self]);
     }
 }
 
@@ -64,22 +29,12 @@ impl Body for JoinedTest {
         7
     }
 
-    fn put_body(&self, buffer: &mut [u8], at: usize) -> usize {
-        let join = self.join.code();
-        let t = self.test.codes();
-        put_bytes(
-            buffer,
-            at,
-            &[
-                join,
-                t.kind,
-                high(t.which),
-                low(t.which),
-                t.relation,
-                high(t.entry),
-                low(t.entry),
-            ],
-        )
+    fn put_body(&self, output: &mut Output) {
+        let test = TestCodes::from(self.test);
+        output.put(&[self.join.code(), test.kind]);
+        output.put_u16(test.which);
+        output.put(&[test.relation]);
+        output.put_u16(test.entry);
     }
 }
 
@@ -90,9 +45,10 @@ impl Body for Action {
         4
     }
 
-    fn put_body(&self, buffer: &mut [u8], at: usize) -> usize {
-        let action = *self;
-        let a = action.codes();
-        put_bytes(buffer, at, &[a.kind, high(a.which), low(a.which), a.state])
+    fn put_body(&self, output: &mut Output) {
+        let action = ActionCodes::from(*self);
+        output.put(&[action.kind]);
+        output.put_u16(action.which);
+        output.put(&[action.state]);
     }
 }

@@ -6,25 +6,18 @@ ghost use Rattle.documents.specs.Documents.{reading};
 ghost use Rattle.writing.specs.Buffers.{WrittenInto, short_by};
 ghost use Rattle.writing.specs.Bytes.{table_bytes, order_bytes};
 
-use crate::buffer::{fields_size, put_bytes, put_fields, put_names};
+use crate::body::{field_size, fields_size};
+use crate::output::Output;
+use documents::document::THE_VERSION;
+use tables::codes::tags::DocumentField;
 use tables::refusal::Refusal;
 use tables::table::Table;
-
-/// The version's field, with which every document begins.
-const VERSION: [u8; 4] = [1, 0, 1, 1];
-
-/// The tags of the other fields of a document.
-const STATEMENT: u8 = 2;
-
-const PLAN: u8 = 3;
 
 /// How many bytes a table takes.
 fn table_size(table: &Table) -> usize
     ensures { result ≡ length (table_bytes (rows_of table.now)) }
 {
-    let statements = fields_size(table.statements());
-    let plans = fields_size(table.plans());
-    4 + statements + plans
+    field_size(&THE_VERSION) + fields_size(table.statements()) + fields_size(table.plans())
 }
 
 /// Refuses a buffer that has fewer bytes than are needed.
@@ -43,11 +36,12 @@ pub fn write_table(table: &Table, buffer: &mut [u8]) -> Result<usize, Refusal>
     ensures written { WrittenInto (table_bytes (rows_of table.now)) buffer.old buffer.new result }
     ensures read_back { IfOk result (λ n. reading (take n buffer.new) ≡ Ok (rows_of table.now)) }
 {
-    let size = table_size(table);
-    check_room(buffer.len(), size)?;
-    let at = put_bytes(buffer, 0, &VERSION);
-    let at = put_fields(buffer, at, STATEMENT, table.statements());
-    Ok(put_fields(buffer, at, PLAN, table.plans()))
+    check_room(buffer.len(), table_size(table))?;
+    let mut output = Output::new(buffer);
+    output.put_field(DocumentField::Version, &THE_VERSION);
+    output.put_fields(DocumentField::Statement, table.statements());
+    output.put_fields(DocumentField::Plan, table.plans());
+    Ok(output.len())
 }
 
 /// Writes the order of a table's statements out, a byte a name, on the same terms.
@@ -56,5 +50,7 @@ pub fn write_order(table: &Table, buffer: &mut [u8]) -> Result<usize, Refusal>
 {
     let statements = table.statements();
     check_room(buffer.len(), statements.len())?;
-    Ok(put_names(buffer, 0, statements))
+    let mut output = Output::new(buffer);
+    output.put_names(statements);
+    Ok(output.len())
 }

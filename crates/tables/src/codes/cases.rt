@@ -1,10 +1,9 @@
 // The types whose cases each have a code.
-ghost use Rattle.std.specs.Prelude.{◌≡◌};
-ghost use Rattle.tables.specs.Codes.{state_code, state_of, join_code, join_of, comparison_code, comparison_of, mark_code, mark_of, kind_code, kind_of, family_of};
-ghost use Rattle.tables.specs.Families.{family_code};
-ghost use Rattle.tables.specs.Numbers.{ring_code, timer_code};
+ghost use Rattle.tables.specs.Codes.{state_code, states, join_code, joins, comparison_code, comparisons, mark_code, marks, kind_code, kinds};
+ghost use Rattle.tables.specs.Families.{family_code, families};
+ghost use Rattle.tables.specs.Numbers.{ring_code, rings, timer_code, timers};
 
-use crate::code::{Coded, decode};
+use crate::code::Coded;
 use crate::family::Family;
 use crate::number::{Ring, Timer};
 use crate::place::State;
@@ -12,7 +11,7 @@ use crate::statement::Mark;
 use crate::test::{Comparison, Join};
 
 /// What a line of a document is about.
-#[derive(Clone, Copy)]
+#[derive(Clone, Copy, PartialEq, Eq)]
 pub enum Kind {
     Cib = 1,
     Cob = 2,
@@ -35,6 +34,17 @@ const COMPARISONS: [Comparison; 4] = [
 ];
 
 const MARKS: [Mark; 3] = [Mark::Enabled, Mark::Disabled, Mark::Planned];
+
+const RINGS: [Ring; 4] = [Ring::One, Ring::Two, Ring::Three, Ring::Four];
+
+const TIMERS: [Timer; 6] = [
+    Timer::MinGreen,
+    Timer::MaxGreen,
+    Timer::Yellow,
+    Timer::RedClear,
+    Timer::Walk,
+    Timer::PedClear,
+];
 
 const KINDS: [Kind; 7] = [
     Kind::Cib,
@@ -79,8 +89,15 @@ const FAMILIES: [Family; 30] = [
     Family::PreemptCall,
 ];
 
+// An impl for each type: only where the type is named can a case be cast to its code.
 impl Coded for State {
     ghost coded = { state_code };
+
+    ghost cases = { states };
+
+    fn all() -> &'static [State] {
+        &STATES
+    }
 
     fn code(self) -> u8 {
         self as u8
@@ -90,6 +107,12 @@ impl Coded for State {
 impl Coded for Join {
     ghost coded = { join_code };
 
+    ghost cases = { joins };
+
+    fn all() -> &'static [Join] {
+        &JOINS
+    }
+
     fn code(self) -> u8 {
         self as u8
     }
@@ -97,6 +120,12 @@ impl Coded for Join {
 
 impl Coded for Comparison {
     ghost coded = { comparison_code };
+
+    ghost cases = { comparisons };
+
+    fn all() -> &'static [Comparison] {
+        &COMPARISONS
+    }
 
     fn code(self) -> u8 {
         self as u8
@@ -106,6 +135,12 @@ impl Coded for Comparison {
 impl Coded for Mark {
     ghost coded = { mark_code };
 
+    ghost cases = { marks };
+
+    fn all() -> &'static [Mark] {
+        &MARKS
+    }
+
     fn code(self) -> u8 {
         self as u8
     }
@@ -113,6 +148,12 @@ impl Coded for Mark {
 
 impl Coded for Kind {
     ghost coded = { kind_code };
+
+    ghost cases = { kinds };
+
+    fn all() -> &'static [Kind] {
+        &KINDS
+    }
 
     fn code(self) -> u8 {
         self as u8
@@ -122,6 +163,12 @@ impl Coded for Kind {
 impl Coded for Ring {
     ghost coded = { ring_code };
 
+    ghost cases = { rings };
+
+    fn all() -> &'static [Ring] {
+        &RINGS
+    }
+
     fn code(self) -> u8 {
         self as u8
     }
@@ -129,6 +176,12 @@ impl Coded for Ring {
 
 impl Coded for Timer {
     ghost coded = { timer_code };
+
+    ghost cases = { timers };
+
+    fn all() -> &'static [Timer] {
+        &TIMERS
+    }
 
     fn code(self) -> u8 {
         self as u8
@@ -138,55 +191,13 @@ impl Coded for Timer {
 impl Coded for Family {
     ghost coded = { family_code };
 
+    ghost cases = { families };
+
+    fn all() -> &'static [Family] {
+        &FAMILIES
+    }
+
     fn code(self) -> u8 {
         self as u8
-    }
-}
-
-impl State {
-    pub fn from_code(code: u8) -> Option<State>
-        ensures { result ≡ state_of code }
-    {
-        decode(&STATES, code)
-    }
-}
-
-impl Join {
-    pub fn from_code(code: u8) -> Option<Join>
-        ensures { result ≡ join_of code }
-    {
-        decode(&JOINS, code)
-    }
-}
-
-impl Comparison {
-    pub fn from_code(code: u8) -> Option<Comparison>
-        ensures { result ≡ comparison_of code }
-    {
-        decode(&COMPARISONS, code)
-    }
-}
-
-impl Mark {
-    pub fn from_code(code: u8) -> Option<Mark>
-        ensures { result ≡ mark_of code }
-    {
-        decode(&MARKS, code)
-    }
-}
-
-impl Kind {
-    pub fn from_code(code: u8) -> Option<Kind>
-        ensures { result ≡ kind_of code }
-    {
-        decode(&KINDS, code)
-    }
-}
-
-impl Family {
-    pub fn from_code(code: u8) -> Option<Family>
-        ensures { result ≡ family_of code }
-    {
-        decode(&FAMILIES, code)
     }
 }

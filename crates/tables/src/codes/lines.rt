@@ -1,13 +1,15 @@
 // Tests and actions.
 ghost use Rattle.std.specs.Prelude.{◌≡◌};
+ghost use Rattle.tables.specs.Decoded.{Decodes};
 ghost use Rattle.tables.specs.Lines.{asked, asked_of, number_test, test_codes, test_of, set_of, delay_of, action_codes, action_of};
 
 use crate::action::Action;
 use crate::code::Coded;
 use crate::codes::cases::Kind;
+use crate::codes::unknown::UnknownCode;
 use crate::family::Member;
 use crate::limits::MAX_DELAY;
-use crate::number::{Entry, Number};
+use crate::number::Number;
 use crate::place::{Place, State};
 use crate::statement::Name;
 use crate::test::{Comparison, Test};
@@ -30,41 +32,46 @@ pub struct ActionCodes {
     pub state: u8,
 }
 
-impl Test {
-    /// The test of these codes, where each is in range.
-    pub fn from_codes(codes: TestCodes) -> Option<Test>
-        ensures { result ≡ test_of codes }
-    {
+impl TryFrom<TestCodes> for Test {
+    type Error = UnknownCode;
+
+    ghost try_from_gives = { λ codes r. Decodes (test_of codes) r };
+
+    #[tactic(auto, unfolding(crate::specs::Lines::test_of))]
+    fn try_from(codes: TestCodes) -> Result<Test, UnknownCode> {
         let kind = Kind::from_code(codes.kind)?;
-        if let Kind::FrameNumber = kind {
-            return Self::of_number(codes);
+        if kind == Kind::FrameNumber {
+            return Test::of_number(codes);
         }
         if codes.entry != 0 {
-            return None;
+            return Err(UnknownCode);
         }
         let state = State::from_code(codes.relation)?;
-        Self::of_state(kind, codes.which, state)
+        Test::of_state(kind, codes.which, state)
     }
+}
 
+impl Test {
+    // Kind, which and state stay three here and below: a struct of them would be filled once and taken apart at once.
     // A test that something is ON or OFF.
-    fn of_state(kind: Kind, which: u16, state: State) -> Option<Test>
-        ensures { result ≡ asked_of kind which state }
+    fn of_state(kind: Kind, which: u16, state: State) -> Result<Test, UnknownCode>
+        ensures { Decodes (asked_of kind which state) result }
     {
         match kind {
-            Kind::FamilyMember => Some(Test::MemberIs(Member::from_code(which)?, state)),
-            Kind::LogicStatement => Some(Test::StatementIs(Name::from_code(which)?, state)),
-            _ => Some(Test::PlaceIs(Place::from_code(kind, which)?, state)),
+            Kind::FamilyMember => Ok(Test::MemberIs(Member::try_from(which)?, state)),
+            Kind::LogicStatement => Ok(Test::StatementIs(Name::try_from(which)?, state)),
+            _ => Ok(Test::PlaceIs(Place::try_from((kind, which))?, state)),
         }
     }
 
     // A comparison of a number with an entry.
-    fn of_number(codes: TestCodes) -> Option<Test>
-        ensures { result ≡ number_test codes }
+    fn of_number(codes: TestCodes) -> Result<Test, UnknownCode>
+        ensures { Decodes (number_test codes) result }
     {
-        let number = Number::from_code(codes.which)?;
+        let number = Number::try_from(codes.which)?;
         let comparison = Comparison::from_code(codes.relation)?;
-        let entry = Entry::from_value(number, codes.entry)?;
-        Some(Test::NumberIs(number, comparison, entry))
+        let entry = number.entry(codes.entry).ok_or(UnknownCode)?;
+        Ok(Test::NumberIs(number, comparison, entry))
     }
 
     // The codes of a test that something is ON or OFF.
@@ -78,67 +85,83 @@ impl Test {
             entry: 0,
         }
     }
+}
 
-    pub fn codes(self) -> TestCodes
-        ensures { result ≡ test_codes self }
-    {
-        match self {
-            Test::PlaceIs(place, state) => Self::asked(place.kind(), place.code(), state),
-            Test::MemberIs(member, state) => Self::asked(Kind::FamilyMember, member.code(), state),
-            Test::StatementIs(name, state) => Self::asked(
+impl From<Test> for TestCodes {
+    ghost from_gives = { λ test codes. codes ≡ test_codes test };
+
+    fn from(test: Test) -> TestCodes {
+        match test {
+            Test::PlaceIs(place, state) => Test::asked(place.kind(), place.code(), state),
+            Test::MemberIs(member, state) => Test::asked(
+                Kind::FamilyMember,
+                u16::from(member),
+                state,
+            ),
+            Test::StatementIs(name, state) => Test::asked(
                 Kind::LogicStatement,
                 u16::from(name.0),
                 state,
             ),
             Test::NumberIs(number, comparison, entry) => TestCodes {
                 kind: Kind::FrameNumber.code(),
-                which: number.code(),
+                which: u16::from(number),
                 relation: comparison.code(),
-                entry: entry.value(),
+                entry: u16::from(entry),
             },
         }
     }
 }
 
-impl Action {
-    /// The action of these codes, where each is in range.
-    pub fn from_codes(codes: ActionCodes) -> Option<Action>
-        ensures { result ≡ action_of codes }
-    {
+impl TryFrom<ActionCodes> for Action {
+    type Error = UnknownCode;
+
+    ghost try_from_gives = { λ codes r. Decodes (action_of codes) r };
+
+    #[tactic(auto, unfolding(crate::specs::Lines::action_of))]
+    fn try_from(codes: ActionCodes) -> Result<Action, UnknownCode> {
         let kind = Kind::from_code(codes.kind)?;
-        if let Kind::DelayFor = kind {
-            return Self::of_delay(codes);
+        if kind == Kind::DelayFor {
+            return Action::of_delay(codes);
         }
         let state = State::from_code(codes.state)?;
-        Self::of_state(kind, codes.which, state)
+        Action::of_state(kind, codes.which, state)
     }
+}
 
+impl Action {
     // An action that sets something ON or OFF.
-    fn of_state(kind: Kind, which: u16, state: State) -> Option<Action>
-        ensures { result ≡ set_of kind which state }
+    fn of_state(kind: Kind, which: u16, state: State) -> Result<Action, UnknownCode>
+        ensures { Decodes (set_of kind which state) result }
     {
         match kind {
-            Kind::FamilyMember => Some(Action::SetMember(Member::from_code(which)?, state)),
-            _ => Some(Action::SetPlace(Place::from_code(kind, which)?, state)),
+            Kind::FamilyMember => Ok(Action::SetMember(Member::try_from(which)?, state)),
+            _ => Ok(Action::SetPlace(Place::try_from((kind, which))?, state)),
         }
     }
 
     // A DELAY, which has no state.
-    fn of_delay(codes: ActionCodes) -> Option<Action>
-        ensures { result ≡ delay_of codes }
+    fn of_delay(codes: ActionCodes) -> Result<Action, UnknownCode>
+        ensures { Decodes (delay_of codes) result }
     {
         if codes.which > MAX_DELAY || codes.state != 0 {
-            return None;
+            return Err(UnknownCode);
         }
-        Some(Action::Delay(Tenths(codes.which)))
+        Ok(Action::Delay(Tenths(codes.which)))
     }
+}
 
-    pub fn codes(self) -> ActionCodes
-        ensures { result ≡ action_codes self }
-    {
-        let (kind, which, state) = match self {
+impl From<Action> for ActionCodes {
+    ghost from_gives = { λ action codes. codes ≡ action_codes action };
+
+    fn from(action: Action) -> ActionCodes {
+        let (kind, which, state) = match action {
             Action::SetPlace(place, state) => (place.kind(), place.code(), state.code()),
-            Action::SetMember(member, state) => (Kind::FamilyMember, member.code(), state.code()),
+            Action::SetMember(member, state) => (
+                Kind::FamilyMember,
+                u16::from(member),
+                state.code(),
+            ),
             Action::Delay(tenths) => (Kind::DelayFor, tenths.0, 0),
         };
         ActionCodes {

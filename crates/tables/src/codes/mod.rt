@@ -5,6 +5,8 @@ pub mod cases;
 pub mod lines;
 pub mod numbers;
 pub mod places;
+pub mod tags;
+pub mod unknown;
 
 /// Codes and what they stand for are inverse both ways.
 pub fn codes_are_inverse()

@@ -1,78 +1,72 @@
 // The numbers of a frame, and their entries.
-ghost use Rattle.std.specs.Prelude.{◌≡◌, ◌+◌, ◌<◌};
+ghost use Rattle.std.specs.Prelude.{◌≡◌};
 ghost use Rattle.tables.specs.Codes.{number_of, entry_in, entry_value};
-ghost use Rattle.tables.specs.Numbers.{ring_code, timer_code, number_code};
+ghost use Rattle.tables.specs.Decoded.{Decodes};
+ghost use Rattle.tables.specs.Numbers.{number_code};
 
 use crate::code::Coded;
+use crate::codes::unknown::UnknownCode;
 use crate::number::{Entry, Number, Ring, Timer};
 use crate::time::Seconds;
 
-impl Entry {
-    /// The entry of this value, where the number allows it: seconds for a ring timer, a plain value for any other.
-    pub fn from_value(number: Number, value: u16) -> Option<Entry>
-        ensures { result ≡ entry_in number value }
-    {
-        let allowed = number.entries();
-        if value < allowed.least || value > allowed.greatest {
-            return None;
-        }
-        if let Number::RingTimer(_, _) = number {
-            return Some(Entry::Timed(Seconds(value as u8)));
-        }
-        Some(Entry::Plain(value))
-    }
+impl From<Entry> for u16 {
+    ghost from_gives = { λ entry value. value ≡ entry_value entry };
 
-    pub fn value(self) -> u16
-        ensures { result ≡ entry_value self }
-    {
-        match self {
+    fn from(entry: Entry) -> u16 {
+        match entry {
             Entry::Timed(seconds) => u16::from(seconds.0),
             Entry::Plain(value) => value,
         }
     }
 }
 
-impl Number {
-    /// The number that stands at this place in a frame, counted from 0.
-    pub fn from_code(code: u16) -> Option<Number>
-        ensures { result ≡ number_of code }
-    {
+// The number that stands at this place in a frame, counted from 0. Each way is a match, so that a line of it can be read beside
+// the list of numbers; `codes_are_inverse` ties the two.
+impl TryFrom<u16> for Number {
+    type Error = UnknownCode;
+
+    ghost try_from_gives = { λ code r. Decodes (number_of code) r };
+
+    fn try_from(code: u16) -> Result<Number, UnknownCode> {
         match code {
-            0..=23 => Some(Number::RingTimer(
-                ring_at((code / 6) as u8),
-                timer_at((code % 6) as u8),
-            )),
-            24 => Some(Number::CoordinationPlan),
-            25 => Some(Number::CycleLength),
-            26 => Some(Number::Offset),
-            27 => Some(Number::LocalCycleTimer),
-            28 => Some(Number::MasterCycleTimer),
-            29..=32 => Some(Number::SplitTimer(ring_at((code - 29) as u8))),
-            33 => Some(Number::Month),
-            34 => Some(Number::DayOfMonth),
-            35 => Some(Number::DayOfWeek),
-            36 => Some(Number::Hour),
-            37 => Some(Number::Minute),
-            38 => Some(Number::Second),
-            39 => Some(Number::Tenth),
-            40..=103 => Some(Number::Volume((code - 39) as u8)),
-            104..=167 => Some(Number::Occupancy((code - 103) as u8)),
-            168 => Some(Number::SplitPattern),
-            169 => Some(Number::DetectorPlan),
-            170 => Some(Number::DayPlan),
-            171 => Some(Number::ActionPlan),
-            172 => Some(Number::Controller),
-            173 => Some(Number::Sequence),
-            174 => Some(Number::TimingPlan),
-            175 => Some(Number::RecallPlan),
-            _ => None,
+            0..=23 => {
+                let ring = Ring::from_code((code / 6) as u8 + 1)?;
+                let timer = Timer::from_code((code % 6) as u8)?;
+                Ok(Number::RingTimer(ring, timer))
+            }
+            24 => Ok(Number::CoordinationPlan),
+            25 => Ok(Number::CycleLength),
+            26 => Ok(Number::Offset),
+            27 => Ok(Number::LocalCycleTimer),
+            28 => Ok(Number::MasterCycleTimer),
+            29..=32 => Ok(Number::SplitTimer(Ring::from_code((code - 28) as u8)?)),
+            33 => Ok(Number::Month),
+            34 => Ok(Number::DayOfMonth),
+            35 => Ok(Number::DayOfWeek),
+            36 => Ok(Number::Hour),
+            37 => Ok(Number::Minute),
+            38 => Ok(Number::Second),
+            39 => Ok(Number::Tenth),
+            40..=103 => Ok(Number::Volume((code - 39) as u8)),
+            104..=167 => Ok(Number::Occupancy((code - 103) as u8)),
+            168 => Ok(Number::SplitPattern),
+            169 => Ok(Number::DetectorPlan),
+            170 => Ok(Number::DayPlan),
+            171 => Ok(Number::ActionPlan),
+            172 => Ok(Number::Controller),
+            173 => Ok(Number::Sequence),
+            174 => Ok(Number::TimingPlan),
+            175 => Ok(Number::RecallPlan),
+            _ => Err(UnknownCode),
         }
     }
+}
 
-    pub fn code(self) -> u16
-        ensures { result ≡ number_code self }
-    {
-        match self {
+impl From<Number> for u16 {
+    ghost from_gives = { λ number code. code ≡ number_code number };
+
+    fn from(number: Number) -> u16 {
+        match number {
             Number::RingTimer(ring, timer) => 6 * (u16::from(ring.code()) - 1)
                 + u16::from(timer.code()),
             Number::CoordinationPlan => 24,
@@ -102,30 +96,18 @@ impl Number {
     }
 }
 
-// The ring whose number is one more than this.
-fn ring_at(index: u8) -> Ring
-    requires { index < 4 }
-    ensures { ring_code result ≡ index + 1 }
-{
-    match index {
-        0 => Ring::One,
-        1 => Ring::Two,
-        2 => Ring::Three,
-        _ => Ring::Four,
-    }
-}
-
-// The timer at this place among those of a ring.
-fn timer_at(index: u8) -> Timer
-    requires { index < 6 }
-    ensures { timer_code result ≡ index }
-{
-    match index {
-        0 => Timer::MinGreen,
-        1 => Timer::MaxGreen,
-        2 => Timer::Yellow,
-        3 => Timer::RedClear,
-        4 => Timer::Walk,
-        _ => Timer::PedClear,
+impl Number {
+    /// The entry of this value, where the number allows it: seconds for a ring timer, a plain value for any other.
+    pub fn entry(self, value: u16) -> Option<Entry>
+        ensures { result ≡ entry_in self value }
+    {
+        let allowed = self.entries();
+        if value < allowed.least || value > allowed.greatest {
+            return None;
+        }
+        if let Number::RingTimer(_, _) = self {
+            return Some(Entry::Timed(Seconds(value as u8)));
+        }
+        Some(Entry::Plain(value))
     }
 }

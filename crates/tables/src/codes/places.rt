@@ -1,62 +1,77 @@
 // Names, members of families, and places.
 ghost use Rattle.std.specs.Prelude.{◌≡◌};
 ghost use Rattle.tables.specs.Codes.{name_of, place_of, place_kind, place_code, member_of, member_code};
+ghost use Rattle.tables.specs.Decoded.{Decodes};
 
 use crate::code::Coded;
 use crate::codes::cases::Kind;
+use crate::codes::unknown::UnknownCode;
 use crate::family::{Family, Member};
 use crate::limits::{INPUT_CELLS, LAST_FLAG, LAST_NAME, OUTPUT_CELLS};
 use crate::place::Place;
 use crate::statement::Name;
 
-impl Name {
-    pub fn from_code(code: u16) -> Option<Name>
-        ensures { result ≡ name_of code }
-    {
+impl TryFrom<u16> for Name {
+    type Error = UnknownCode;
+
+    ghost try_from_gives = { λ code r. Decodes (name_of code) r };
+
+    fn try_from(code: u16) -> Result<Name, UnknownCode> {
         if code >= 1 && code <= LAST_NAME as u16 {
-            Some(Name(code as u8))
+            Ok(Name(code as u8))
         } else {
-            None
+            Err(UnknownCode)
         }
     }
 }
 
-impl Member {
-    /// The family's code is the high byte, the member's number the low one.
-    pub fn from_code(code: u16) -> Option<Member>
-        ensures { result ≡ member_of code }
-    {
+// The family's code is the high byte, the member's number the low one.
+impl TryFrom<u16> for Member {
+    type Error = UnknownCode;
+
+    ghost try_from_gives = { λ code r. Decodes (member_of code) r };
+
+    fn try_from(code: u16) -> Result<Member, UnknownCode> {
+        // With `to_be_bytes` the proof does not close.
         let family = Family::from_code((code / 256) as u8)?;
         let number = (code % 256) as u8;
         if family.has_member(number) {
-            Some(Member { family, number })
+            Ok(Member { family, number })
         } else {
-            None
+            Err(UnknownCode)
         }
-    }
-
-    pub fn code(self) -> u16
-        ensures { result ≡ member_code self }
-    {
-        256 * u16::from(self.family.code()) + u16::from(self.number)
     }
 }
 
-impl Place {
-    /// The place of this code, where the kind is that of a place and has the code.
-    pub fn from_code(kind: Kind, code: u16) -> Option<Place>
-        ensures { result ≡ place_of kind code }
-    {
-        match kind {
-            Kind::Cib if code < INPUT_CELLS => Some(Place::InputCell(code)),
-            Kind::Cob if code < OUTPUT_CELLS => Some(Place::OutputCell(code)),
-            Kind::LogicFlag if code >= 1 && code <= LAST_FLAG as u16 => Some(Place::Flag(
+impl From<Member> for u16 {
+    ghost from_gives = { λ member code. code ≡ member_code member };
+
+    fn from(member: Member) -> u16 {
+        u16::from_be_bytes([member.family.code(), member.number])
+    }
+}
+
+// The kind is that of a place, and has the code.
+impl TryFrom<(Kind, u16)> for Place {
+    type Error = UnknownCode;
+
+    ghost try_from_gives = { λ codes r. Decodes (place_of codes.0 codes.1) r };
+
+    fn try_from(codes: (Kind, u16)) -> Result<Place, UnknownCode> {
+        match codes {
+            (Kind::Cib, code) if code < INPUT_CELLS => Ok(Place::InputCell(code)),
+            (Kind::Cob, code) if code < OUTPUT_CELLS => Ok(Place::OutputCell(code)),
+            (Kind::LogicFlag, code) if code >= 1 && code <= LAST_FLAG as u16 => Ok(Place::Flag(
                 code as u8,
             )),
-            _ => None,
+            _ => Err(UnknownCode),
         }
     }
+}
 
+// The two parts of a place's line: neither alone is a conversion.
+impl Place {
+    /// What kind of line names it.
     pub fn kind(self) -> Kind
         ensures { result ≡ place_kind self }
     {
@@ -67,12 +82,12 @@ impl Place {
         }
     }
 
+    /// Its code among those of its kind.
     pub fn code(self) -> u16
         ensures { result ≡ place_code self }
     {
         match self {
-            Place::InputCell(code) => code,
-            Place::OutputCell(code) => code,
+            Place::InputCell(code) | Place::OutputCell(code) => code,
             Place::Flag(flag) => u16::from(flag),
         }
     }

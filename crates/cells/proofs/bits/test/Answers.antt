@@ -1,8 +1,7 @@
-use lib.Bits.{and_mask}
-use Rattle.std.proofs.Common.{◌/◌, ◌^◌}
+use Rattle.std.proofs.lemmas.Nat.Bits.{shr_and_one}
 use Rattle.cells.specs.Bits.{bit}
 use Rattle.cells.proofs.bits.test.Goals as goal
 
 pub returns : goal.returns
 unfolding bit
-returns c = let e = and_mask (c.args.byte / 2 ^ c.args.k) 1 in rw e
+returns c = rw shr_and_one

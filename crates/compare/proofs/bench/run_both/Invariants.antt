@@ -1,14 +1,18 @@
-use Rattle.std.proofs.Common.{◌≡◌, ℕ, List, take, Option}
+use Rattle.std.proofs.Common.{◌≡◌, take}
 use Rattle.tables.specs.Rows.{TableRows}
 use Rattle.rules.specs.Calls.{fresh}
 use Rattle.processor.specs.States.{state}
-use Rattle.compare.specs.Shown.{Shows}
+use Rattle.compare.specs.Frames.{frame_of}
+use Rattle.compare.specs.Sides.{state_of}
 use Rattle.compare.proofs.Progress.{SoFar}
 use Rattle.compare.proofs.bench.run_both.Given as goal
 
--- the steps so far were made and compared, and the frames accepted last are kept
-abbrev pub invariant-loop-i : goal.invariant-loop-i
-invariant-loop-i g l =
-    (t u : TableRows) → state g.P.CellStore.cells l.initial.first ≡ fresh t → state g.Q.CellStore.cells l.initial.second ≡ fresh u
-    → (f : Option (List ℕ)) × (h : Option (List ℕ)) × Shows l.first_frame f × Shows l.second_frame h
-    × SoFar t u (take l.i l.steps) f h (state g.P.CellStore.cells l.first) (state g.Q.CellStore.cells l.second) l.found
+-- both sides have their processors, and the steps so far were made and compared
+abbrev pub invariant-loop-at : goal.invariant-loop-at
+invariant-loop-at g l = record {
+  same_first : l.first.processor.ghost_name ≡ l.initial.first.processor.ghost_name;
+  same_second : l.second.processor.ghost_name ≡ l.initial.second.processor.ghost_name;
+  so_far : (t u : TableRows) → state g.P.CellStore.cells l.fn.first ≡ fresh t → state g.Q.CellStore.cells l.fn.second ≡ fresh u
+      → SoFar t u (take l.at-counter l.steps) (frame_of l.first.last_frame) (frame_of l.second.last_frame)
+      (state_of g.P.CellStore.cells l.first) (state_of g.Q.CellStore.cells l.second) l.found;
+}

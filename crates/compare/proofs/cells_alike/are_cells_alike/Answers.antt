@@ -1,28 +1,15 @@
-use Rattle.std.proofs.Common.{sym, refl, ◌∙◌, inl, inr, arith, below_more}
-use mathlib.Core.Bool.{false≢true}
-use Rattle.std.proofs.lemmas.Bool.{cases_lt}
+use Rattle.std.proofs.Common.{rules, refl}
+use Rattle.std.proofs.lemmas.Iterator.{cases_from_all, YieldsList-from_range}
 use Rattle.cells.specs.Cells.{all_cells}
-use Rattle.compare.proofs.CellsAlike.{past_alike}
+use Rattle.compare.proofs.CellsAlike.{Alike, all_alike}
 use Rattle.compare.proofs.cells_alike.are_cells_alike.Goals as goal
 
-pub loop-index-init : goal.loop-index-init
-loop-index-init g c = λ f h p q i k. absurd (omega arith)
-
-pub returns-then-not-is_cell_alike : goal.returns-then-not-is_cell_alike
-returns-then-not-is_cell_alike g c = λ f h p q. (
-  λ e. absurd (false≢true e),
-  λ all. absurd (false≢true (sym c.if-not-is_cell_alike.true ∙ (c.is_cell_alike.ensures f h p q).1 (all c.loop-index.index))),
-)
-
-pub loop-index-preserved : goal.loop-index-preserved
-loop-index-preserved g c = λ f h p q.
-    below_more _ _ (c.loop-index.invariant f h p q) ((c.is_cell_alike.ensures f h p q).0 c.if-not-is_cell_alike.false)
-
 pub returns : goal.returns
-returns g c = λ f h p q. (
-  λ _ i. elim (cases_lt i all_cells) [
-    | inl k ↦ c.loop-index.invariant f h p q i (omega arith)
-    | inr k ↦ past_alike f h _ _ i all_cells (g.met.P.CellStore.whole c.args.first.now) (g.met.Q.CellStore.whole c.args.second.now) k
-  ],
-  λ _. refl,
-)
+returns g c =
+    let here = c.store-here.result.now in
+    let there = c.store-there.result.now in
+    let alike = Alike c.shown-own_here.result c.shown-own_there.result (g.P.CellStore.cells here) (g.Q.CellStore.cells there) in
+    all_alike _ _ _ _ _ _ c.shown-own_here.ensures c.shown-own_there.ensures c.all.result c.store-here.ensures c.store-there.ensures
+    (g.met.P.CellStore.whole here) (g.met.Q.CellStore.whole there)
+    (cases_from_all _ _ _ alike (λ i. alike i → ⊥) c.all.ensures.ran (YieldsList-from_range 0 all_cells all_cells refl refl)
+    (λ x q k. search rules) (λ x q k. search rules))

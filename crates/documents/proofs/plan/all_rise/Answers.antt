@@ -1,15 +1,10 @@
-use Rattle.std.proofs.Common.{sym, ◌∙◌, arith}
-use Rattle.documents.proofs.Looking.{rising_stops, rising_goes_on, rising_ends}
+use Rattle.std.proofs.Common.{ltb, rules, tests}
+use Rattle.std.proofs.lemmas.List.Sorted.{answers_always}
+use Rattle.tables.specs.Limits.{last_name}
+use Rattle.documents.proofs.Looking.{rising_by_pairs}
 use Rattle.documents.proofs.plan.all_rise.Goals as goal
-
-pub returns-then-name-floor : goal.returns-then-name-floor
-returns-then-name-floor c =
-    sym (sym c.loop-name.invariant ∙ rising_stops c.loop-name.floor c.args.names.now c.loop-name.name-index (omega arith) (omega arith))
-
-pub loop-name-preserved : goal.loop-name-preserved
-loop-name-preserved c =
-    sym (rising_goes_on c.loop-name.floor c.args.names.now c.loop-name.name-index (omega arith) (omega arith)) ∙ c.loop-name.invariant
 
 pub returns : goal.returns
 returns c =
-    sym (sym c.loop-name.invariant ∙ rising_ends c.loop-name.floor c.args.names.now c.loop-name.name-index (omega arith))
+    rising_by_pairs last_name c.args.names.now c.is_sorted_by.result c.requires
+    (c.is_sorted_by.ensures.cases ltb (answers_always _ _ _ (λ f a r f' k. search (rules, tests))))

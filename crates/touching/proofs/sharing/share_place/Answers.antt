@@ -1,22 +1,15 @@
-use Rattle.std.proofs.Common.{refl, arith}
-use Rattle.std.proofs.lemmas.Option.{slice_get_read}
-use Rattle.touching.proofs.Finds.{line_sharing}
-use Rattle.touching.proofs.Searches.{found, passed, absent}
+use Rattle.std.proofs.Common.{rules}
+use Rattle.std.proofs.lemmas.Bool.Decides.{Decides-like}
+use Rattle.std.proofs.lemmas.Iterator.{YieldsList-from_slice}
+use Rattle.rules.specs.Touching.{named_by}
+use Rattle.touching.specs.Sharing.{Share}
+use Rattle.touching.proofs.Searches.{any_decides}
+use Rattle.touching.proofs.Named.{share_by_a_line, share_by_lines}
 use Rattle.touching.proofs.sharing.share_place.Goals as goal
 
-pub returns-then-line_shares : goal.returns-then-line_shares
-returns-then-line_shares g c =
-    let xs = c.args.xs.now in
-    let i = c.loop-line.line-index in
-    let read = slice_get_read xs _ i _ refl (omega arith) c.line-item.is in
-    found (line_sharing g.X.NamesPlaces.named _) xs i read c.line_shares.ensures c.if-line_shares.true
-
-pub loop-line-preserved : goal.loop-line-preserved
-loop-line-preserved g c =
-    let xs = c.args.xs.now in
-    let i = c.loop-line.line-index in
-    let read = slice_get_read xs _ i _ refl (omega arith) c.line-item.is in
-    passed (line_sharing g.X.NamesPlaces.named _) xs i read c.line_shares.ensures c.if-line_shares.false c.loop-line.invariant
-
 pub returns : goal.returns
-returns g c = absent (line_sharing g.X.NamesPlaces.named _) c.args.xs.now c.loop-line.line-index (omega arith) c.loop-line.invariant
+returns g c =
+    let names = g.X.NamesPlaces.named in
+    let qs = named_by g.Y.NamesPlaces.named c.args.ys.now in
+    Decides-like _ (share_by_lines names c.args.xs.now qs) (share_by_a_line names c.args.xs.now qs)
+    (any_decides _ _ _ (λ line. Share (names line) qs) c.any.ensures.ran (YieldsList-from_slice c.args.xs.now cc) (λ x b q k. search rules))
