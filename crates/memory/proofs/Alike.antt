@@ -10,7 +10,7 @@ use Rattle.memory.specs.declared.rows.WaitTable.{WaitTable}
 use Rattle.memory.specs.contracts.flags.FlagTablePartialEq.TheImpl as flag_tables
 use Rattle.memory.specs.contracts.rows.WaitTablePartialEq.TheImpl as wait_tables
 use Rattle.memory.specs.Flags.{flags_in}
-use Rattle.memory.specs.Waits.{wait_in, waits_in}
+use Rattle.memory.specs.Waits.{row_wait, waits_in}
 
 -- Where a test decides whether f makes the same of two elements, `==` by it decides whether f makes the same of two lists.
 mapped_alike : {X Y : Type 0} (f : X → Y) (E : X → X → Bool) → ((x y : X) → Decides (E x y) (f x ≡ f y))
@@ -28,4 +28,4 @@ flags_alike a b = slice_eq-Decides booleans_Decides a.on b.on _ refl
 
 -- Two wait tables are equal where each name has the same record.
 pub waits_alike : (a b : WaitTable) → Decides (wait_tables.ghosts.eq a b) (waits_in a ≡ waits_in b)
-waits_alike a b = mapped_alike wait_in _ (λ x y. search rules) a.rows b.rows
+waits_alike a b = mapped_alike row_wait _ (λ x y. search rules) a.rows b.rows

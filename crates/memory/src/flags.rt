@@ -1,5 +1,5 @@
 // The flags.
-ghost use Rattle.std.specs.Prelude.{◌≡◌, ℕ, ◌<◌, Bool, false, List, length, replicate, IfSome, slice_index_or};
+ghost use Rattle.std.specs.Prelude.{◌≡◌, ℕ, ◌<◌, Bool, false, List, length, replicate, IfSome, Decides, slice_index_or};
 ghost use Rattle.tables.specs.Limits.{last_flag};
 ghost use Rattle.tables.specs.declared.place.Place.TheVariants.{Flag};
 ghost use Rattle.cells.specs.Bits.{bit};
@@ -87,5 +87,12 @@ impl FlagTable {
         ensures bits { (i : ℕ) → i < last_flag → packed_cell result i ≡ slice_index_or (flags_in self.now) i false }
     {
         array::from_fn(|i| packed(&self.on[8 * i..8 * i + 8]))
+    }
+
+    /// Whether two tables have the same flags ON.
+    pub fn same(&self, other: &FlagTable) -> bool
+        ensures { Decides result (flags_in self.now ≡ flags_in other.now) }
+    {
+        self == other
     }
 }

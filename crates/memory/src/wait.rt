@@ -1,5 +1,5 @@
 // The wait record of a statement.
-ghost use Rattle.std.specs.Prelude.{◌≡◌, ◌≤◌};
+ghost use Rattle.std.specs.Prelude.{◌≡◌, ◌≤◌, Decides};
 ghost use Rattle.tables.specs.Limits.{max_delay};
 ghost use Rattle.rules.specs.declared.branch.Branch.TheVariants.{Neither};
 ghost use Rattle.rules.specs.Memory.{no_wait};
@@ -80,5 +80,12 @@ impl Wait {
             branch: taken,
             count,
         };
+    }
+
+    /// Whether two records hold the same branch at the same count.
+    pub fn same(&self, other: &Wait) -> bool
+        ensures { Decides result (wait_in self.now ≡ wait_in other.now) }
+    {
+        self == other
     }
 }
