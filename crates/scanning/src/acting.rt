@@ -5,10 +5,11 @@ ghost use Rattle.tables.specs.Rows.{statement_row};
 ghost use Rattle.tables.specs.Rules.{delay, delays, statement_keeps};
 ghost use Rattle.rules.specs.Acting.{timed, due, written_at, after_writes};
 ghost use Rattle.rules.specs.Scanning.{actions as actions_of};
-ghost use Rattle.scanning.specs.Memories.{places_in};
+ghost use Rattle.memory.specs.Flags.{places_of};
 
-use crate::places::Places;
+use crate::places::{set_all, set_place};
 use cells::store::CellStore;
+use memory::flags::FlagTable;
 use rules::branch::Branch;
 use tables::action::Action;
 use tables::statement::Statement;
@@ -43,41 +44,51 @@ impl<'a> BranchActions<'a> {
     }
 }
 
-impl<S: CellStore> Places<S> {
-    // Takes one action, below DELAYs that sum to `wait`: sets its places if the wait is at most the count, and answers the wait
-    // of the actions below it.
-    fn act_one(&mut self, action: Action, count: Tenths, wait: Tenths) -> Tenths
-        requires { wait.0 + delay action ≤ max_delay }
-        ensures wait { result.0 ≡ wait.0 + delay action }
-        ensures places { (more : List Action)
-            → after_writes (due count.0 (timed result.0 more)) (places_in S.cells self.new)
-            ≡ after_writes (due count.0 (timed wait.0 (action ∷ more))) (places_in S.cells self.old) }
-    {
-        match action {
-            Action::SetPlace(place, state) => {
-                if wait <= count {
-                    self.set(place, state);
-                }
-                wait
+// Takes one action, below DELAYs that sum to `wait`: sets its places if the wait is at most the count, and answers the wait of
+// the actions below it.
+fn act_one<S: CellStore>(
+    action: Action,
+    count: Tenths,
+    wait: Tenths,
+    store: &mut S,
+    flags: &mut FlagTable,
+) -> Tenths
+    requires { wait.0 + delay action ≤ max_delay }
+    ensures wait { result.0 ≡ wait.0 + delay action }
+    ensures places { (more : List Action)
+        → after_writes (due count.0 (timed result.0 more)) (places_of (S.cells store.new) flags.new)
+        ≡ after_writes (due count.0 (timed wait.0 (action ∷ more))) (places_of (S.cells store.old) flags.old) }
+{
+    match action {
+        Action::SetPlace(place, state) => {
+            if wait <= count {
+                set_place(store, flags, place, state);
             }
-            Action::SetMember(member, state) => {
-                if wait <= count {
-                    self.set_all(member.cells(), state);
-                }
-                wait
-            }
-            Action::Delay(tenths) => Tenths(wait.0 + tenths.0),
+            wait
         }
+        Action::SetMember(member, state) => {
+            if wait <= count {
+                set_all(store, flags, member.cells(), state);
+            }
+            wait
+        }
+        Action::Delay(tenths) => Tenths(wait.0 + tenths.0),
     }
+}
 
-    // Runs from the top the actions of a branch whose wait is at most the count.
-    #[tactic(auto, unfolding(rules::specs::Acting::written_at))]
-    pub(crate) fn act(&mut self, branch: BranchActions, count: Tenths)
-        ensures { places_in S.cells self.new ≡ after_writes (written_at count.0 branch.entry.actions.now) (places_in S.cells self.old) }
-    {
-        let mut wait = Tenths(0);
-        for action in branch.actions {
-            wait = self.act_one(*action, count, wait);
-        }
+// Runs from the top the actions of a branch whose wait is at most the count.
+#[tactic(auto, unfolding(rules::specs::Acting::written_at))]
+pub(crate) fn act<S: CellStore>(
+    branch: BranchActions,
+    count: Tenths,
+    store: &mut S,
+    flags: &mut FlagTable,
+)
+    ensures { places_of (S.cells store.new) flags.new
+        ≡ after_writes (written_at count.0 branch.entry.actions.now) (places_of (S.cells store.old) flags.old) }
+{
+    let mut wait = Tenths(0);
+    for action in branch.actions {
+        wait = act_one(*action, count, wait, store, flags);
     }
 }

@@ -1,13 +1,12 @@
 // Which statements a table and a frame enable.
-ghost use Rattle.std.specs.Prelude.{◌≡◌, ℕ, true, false, ◌||◌, ◌==◌, map};
+ghost use Rattle.std.specs.Prelude.{◌≡◌, map};
 ghost use Rattle.tables.specs.Contents.{rows_of};
-ghost use Rattle.tables.specs.Limits.{last_name, counted_to};
 ghost use Rattle.tables.specs.Rows.{statement_row, plan_row};
 ghost use Rattle.rules.specs.Enabling.{plan_lists, enabled as enabled_by};
-ghost use Rattle.scanning.specs.EnabledNames.{is_there, EnabledBy};
+ghost use Rattle.scanning.specs.EnabledNames.{EnabledBy};
 
 use crate::frame::Frame;
-use tables::limits::{LAST_NAME, MAX_NAMES};
+use crate::names::EnabledNames;
 use tables::number::Number;
 use tables::plan::Plan;
 use tables::statement::{Mark, Name, Statement};
@@ -33,49 +32,17 @@ fn is_enabled(plans: &[Plan], plan: u16, statement: &Statement) -> bool
     }
 }
 
-// The names of the statements that are enabled in a scan.
-#[derive(Clone, Copy)]
-pub(crate) struct EnabledNames {
-    on: [bool; MAX_NAMES],
-}
-
-impl EnabledNames {
-    // No name.
-    fn none() -> Self
-        ensures { (n : ℕ) → is_there result n ≡ false }
-    {
-        EnabledNames {
-            on: [false; MAX_NAMES],
+/// The names that a table and a frame enable.
+pub fn enabled_names(table: &Table, frame: &Frame) -> EnabledNames
+    ensures { EnabledBy (rows_of table.now) frame.now result }
+{
+    let plans = table.plans();
+    let plan = frame.number(Number::ActionPlan);
+    let mut names = EnabledNames::none();
+    for statement in table.statements() {
+        if is_enabled(plans, plan, statement) {
+            names.add(statement.name);
         }
     }
-
-    // One name more.
-    fn add(&mut self, name: Name)
-        requires { counted_to last_name name.0 ≡ true }
-        ensures { (n : ℕ) → is_there self.new n ≡ (is_there self.old n || (name.0 == n)) }
-    {
-        self.on[name.0 as usize - 1] = true;
-    }
-
-    // The names that a table and a frame enable.
-    pub(crate) fn new(table: &Table, frame: &Frame) -> Self
-        ensures { EnabledBy (rows_of table.now) frame.now result }
-    {
-        let plans = table.plans();
-        let plan = frame.number(Number::ActionPlan);
-        let mut names = EnabledNames::none();
-        for statement in table.statements() {
-            if is_enabled(plans, plan, statement) {
-                names.add(statement.name);
-            }
-        }
-        names
-    }
-
-    // Whether a name is enabled.
-    pub(crate) fn contains(&self, name: Name) -> bool
-        ensures { result ≡ is_there self.now name.0 }
-    {
-        matches!(name.0, 1..=LAST_NAME) && self.on[name.0 as usize - 1]
-    }
+    names
 }

@@ -4,9 +4,11 @@
 #![tactic(auto)]
 
 pub mod acting;
-pub(crate) mod enabling;
+pub mod enabling;
 pub mod frame;
 pub mod left;
+pub mod names;
 pub mod places;
 pub mod scan;
+pub mod testing;
 pub mod turn;

@@ -1,12 +1,12 @@
-use Rattle.std.proofs.Common.{map, get_or, subst}
-use Rattle.tables.specs.Lists.{Among}
+use Rattle.std.proofs.Common.{map, ap, ◌∙◌}
+use Rattle.tables.specs.Contents.{rows_of}
+use Rattle.tables.specs.Lists.{every}
 use Rattle.tables.specs.Rows.{statement_row}
-use Rattle.scanning.proofs.Loops.{no_statement, among_at}
+use Rattle.tables.specs.Rules.{statement_keeps}
+use Rattle.rules.proofs.Names.{well_named}
 use Rattle.scanning.proofs.turn.Memory.run_all.Goals as goal
 
-pub run_statement-requires : goal.run_statement-requires
-run_statement-requires g c =
-    let read = c.statements-statement-items in
-    let s = statement_row (get_or read.result.now c.loop-statement.statement-index no_statement) in
-    subst (λ xs. Among s (map statement_row xs)) read.ensures.value
-    (among_at statement_row read.result.now c.loop-statement.statement-index no_statement c.loop-statement-test.true)
+pub run_all-requires : goal.run_all-requires
+run_all-requires g c =
+    let t = c.args.scan.now.table.now in
+    ap (λ xs. every statement_keeps (map statement_row xs)) c.statements.ensures.value ∙ (well_named (rows_of t) t.keeps).keep
