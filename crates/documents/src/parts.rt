@@ -12,7 +12,7 @@ use crate::field::Field;
 use crate::lines::{action_in, sum_of_delays, test_in};
 use bounded::BoundedList;
 use tables::action::Action;
-use tables::code::Coded;
+use tables::code::Cases;
 use tables::codes::tags::StatementField;
 use tables::limits::{MAX_ACTIONS, MAX_DELAY, MAX_TESTS};
 use tables::refusal::Refusal;
