@@ -3,12 +3,12 @@ ghost use Rattle.std.specs.Prelude.{◌≡◌, ◌≢◌, ◌+◌, ◌^◌, ◌<
 ghost use Rattle.std.specs.Ordering.{nat_cmp};
 ghost use Rattle.std.proofs.Common.{rules};
 
-use tables::code::Coded;
+use tables::code::Cases;
 use tables::codes::tags::{DocumentField, StatementField};
 use tables::refusal::Refusal;
 
 /// The kinds of field that a body may hold: they are ordered as their tags are, and 0 is no tag.
-pub(crate) trait FieldKind: Coded + PartialOrd {
+pub(crate) trait FieldKind: Cases + PartialOrd {
     ghost in_order: { (a b : Self) → Self.partial_cmp a b ≡ Some (nat_cmp (Self.coded a) (Self.coded b)) };
 
     ghost from_one: { (a : Self) → 1 ≤ Self.coded a };

@@ -6,7 +6,7 @@ ghost use Rattle.documents.specs.Statements.{test_in, action_in};
 
 use bounded::BoundedList;
 use tables::action::Action;
-use tables::code::Coded;
+use tables::code::Cases;
 use tables::codes::lines::{ActionCodes, TestCodes};
 use tables::limits::MAX_ACTIONS;
 use tables::test::{Join, JoinedTest, Test};

@@ -7,7 +7,11 @@ use tables::statement::{Name, Statement};
 pub fn find(statements: &[Statement], name: Name) -> Option<usize>
     ensures { Found statements.now name.0 result }
 {
-    statements
-        .iter()
-        .position(|statement| statement.name == name)
+    // A plain loop: with `position` the search takes twice as long and more.
+    for (at, statement) in statements.iter().enumerate() {
+        if statement.name == name {
+            return Some(at);
+        }
+    }
+    None
 }

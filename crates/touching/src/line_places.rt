@@ -2,6 +2,7 @@
 ghost use Rattle.std.specs.Prelude.{◌≡◌, length, Decides};
 ghost use Rattle.std.specs.List.{slice_get};
 ghost use Rattle.tables.specs.Lists.{Among};
+ghost use Rattle.tables.specs.Spans.{span_cells};
 ghost use Rattle.touching.specs.Named.{places_in};
 
 use tables::place::Place;
@@ -14,6 +15,13 @@ pub enum LinePlaces {
     Nothing,
     One(Place),
     Cells(CellSpan),
+}
+
+// Whether a span has this cell.
+fn has_cell(span: CellSpan, cell: Place) -> bool
+    ensures { Decides result (Among cell (span_cells span)) }
+{
+    span.into_iter().any(|other| other == cell)
 }
 
 impl LinePlaces {
@@ -43,6 +51,10 @@ impl LinePlaces {
     pub fn includes(self, place: Place) -> bool
         ensures { Decides result (Among place (places_in self)) }
     {
-        self.into_iter().any(|other| other == place)
+        match self {
+            LinePlaces::Nothing => false,
+            LinePlaces::One(own) => own == place,
+            LinePlaces::Cells(span) => has_cell(span, place),
+        }
     }
 }

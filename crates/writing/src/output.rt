@@ -66,7 +66,7 @@ impl<'a> Output<'a> {
 
     /// Puts a field: its tag, the length of its body, its body.
     pub(crate) fn put_field<F: Coded, T: Body>(&mut self, field: F, item: &T)
-        requires room { HasRoom self.old (field_bytes (F.Coded.coded field) (T.Body.body item.now)) }
+        requires { HasRoom self.old (field_bytes (F.Coded.coded field) (T.Body.body item.now)) }
         ensures { Wrote self.old (field_bytes (F.Coded.coded field) (T.Body.body item.now)) self.new }
     {
         self.put(&[field.code()]);
@@ -76,7 +76,7 @@ impl<'a> Output<'a> {
 
     /// Puts a field for each item.
     pub(crate) fn put_fields<F: Coded, T: Body>(&mut self, field: F, items: &[T])
-        requires room { HasRoom self.old (fields_bytes (F.Coded.coded field) T.Body.body items.now) }
+        requires { HasRoom self.old (fields_bytes (F.Coded.coded field) T.Body.body items.now) }
         ensures { Wrote self.old (fields_bytes (F.Coded.coded field) T.Body.body items.now) self.new }
     {
         for item in items {

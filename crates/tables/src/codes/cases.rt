@@ -3,7 +3,7 @@ ghost use Rattle.tables.specs.Codes.{state_code, states, join_code, joins, compa
 ghost use Rattle.tables.specs.Families.{family_code, families};
 ghost use Rattle.tables.specs.Numbers.{ring_code, rings, timer_code, timers};
 
-use crate::code::Coded;
+use crate::code::{Cases, Coded};
 use crate::family::Family;
 use crate::number::{Ring, Timer};
 use crate::place::State;
@@ -93,111 +93,127 @@ const FAMILIES: [Family; 30] = [
 impl Coded for State {
     ghost coded = { state_code };
 
+    fn code(self) -> u8 {
+        self as u8
+    }
+}
+
+impl Cases for State {
     ghost cases = { states };
 
     fn all() -> &'static [State] {
         &STATES
-    }
-
-    fn code(self) -> u8 {
-        self as u8
     }
 }
 
 impl Coded for Join {
     ghost coded = { join_code };
 
+    fn code(self) -> u8 {
+        self as u8
+    }
+}
+
+impl Cases for Join {
     ghost cases = { joins };
 
     fn all() -> &'static [Join] {
         &JOINS
-    }
-
-    fn code(self) -> u8 {
-        self as u8
     }
 }
 
 impl Coded for Comparison {
     ghost coded = { comparison_code };
 
+    fn code(self) -> u8 {
+        self as u8
+    }
+}
+
+impl Cases for Comparison {
     ghost cases = { comparisons };
 
     fn all() -> &'static [Comparison] {
         &COMPARISONS
-    }
-
-    fn code(self) -> u8 {
-        self as u8
     }
 }
 
 impl Coded for Mark {
     ghost coded = { mark_code };
 
+    fn code(self) -> u8 {
+        self as u8
+    }
+}
+
+impl Cases for Mark {
     ghost cases = { marks };
 
     fn all() -> &'static [Mark] {
         &MARKS
-    }
-
-    fn code(self) -> u8 {
-        self as u8
     }
 }
 
 impl Coded for Kind {
     ghost coded = { kind_code };
 
+    fn code(self) -> u8 {
+        self as u8
+    }
+}
+
+impl Cases for Kind {
     ghost cases = { kinds };
 
     fn all() -> &'static [Kind] {
         &KINDS
-    }
-
-    fn code(self) -> u8 {
-        self as u8
     }
 }
 
 impl Coded for Ring {
     ghost coded = { ring_code };
 
+    fn code(self) -> u8 {
+        self as u8
+    }
+}
+
+impl Cases for Ring {
     ghost cases = { rings };
 
     fn all() -> &'static [Ring] {
         &RINGS
-    }
-
-    fn code(self) -> u8 {
-        self as u8
     }
 }
 
 impl Coded for Timer {
     ghost coded = { timer_code };
 
+    fn code(self) -> u8 {
+        self as u8
+    }
+}
+
+impl Cases for Timer {
     ghost cases = { timers };
 
     fn all() -> &'static [Timer] {
         &TIMERS
-    }
-
-    fn code(self) -> u8 {
-        self as u8
     }
 }
 
 impl Coded for Family {
     ghost coded = { family_code };
 
+    fn code(self) -> u8 {
+        self as u8
+    }
+}
+
+impl Cases for Family {
     ghost cases = { families };
 
     fn all() -> &'static [Family] {
         &FAMILIES
-    }
-
-    fn code(self) -> u8 {
-        self as u8
     }
 }

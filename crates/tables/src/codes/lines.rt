@@ -4,7 +4,7 @@ ghost use Rattle.tables.specs.Decoded.{Decodes};
 ghost use Rattle.tables.specs.Lines.{asked, asked_of, number_test, test_codes, test_of, set_of, delay_of, action_codes, action_of};
 
 use crate::action::Action;
-use crate::code::Coded;
+use crate::code::{Cases, Coded};
 use crate::codes::cases::Kind;
 use crate::codes::unknown::UnknownCode;
 use crate::family::Member;

@@ -4,7 +4,7 @@ ghost use Rattle.tables.specs.Codes.{number_of, entry_in, entry_value};
 ghost use Rattle.tables.specs.Decoded.{Decodes};
 ghost use Rattle.tables.specs.Numbers.{number_code};
 
-use crate::code::Coded;
+use crate::code::{Cases, Coded};
 use crate::codes::unknown::UnknownCode;
 use crate::number::{Entry, Number, Ring, Timer};
 use crate::time::Seconds;

@@ -3,7 +3,7 @@ ghost use Rattle.std.specs.Prelude.{◌≡◌};
 ghost use Rattle.tables.specs.Codes.{name_of, place_of, place_kind, place_code, member_of, member_code};
 ghost use Rattle.tables.specs.Decoded.{Decodes};
 
-use crate::code::Coded;
+use crate::code::{Cases, Coded};
 use crate::codes::cases::Kind;
 use crate::codes::unknown::UnknownCode;
 use crate::family::{Family, Member};

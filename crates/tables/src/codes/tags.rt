@@ -1,7 +1,7 @@
 // The fields of a table document, by the tags with which they begin.
 ghost use Rattle.tables.specs.Tags.{document_tag, document_fields, statement_tag, statement_fields};
 
-use crate::code::Coded;
+use crate::code::{Cases, Coded};
 
 /// The fields of a document, in their order.
 #[derive(Clone, Copy, PartialEq, Eq, PartialOrd, Ord)]
@@ -39,27 +39,31 @@ const STATEMENT_FIELDS: [StatementField; 5] = [
 impl Coded for DocumentField {
     ghost coded = { document_tag };
 
+    fn code(self) -> u8 {
+        self as u8
+    }
+}
+
+impl Cases for DocumentField {
     ghost cases = { document_fields };
 
     fn all() -> &'static [DocumentField] {
         &DOCUMENT_FIELDS
-    }
-
-    fn code(self) -> u8 {
-        self as u8
     }
 }
 
 impl Coded for StatementField {
     ghost coded = { statement_tag };
 
+    fn code(self) -> u8 {
+        self as u8
+    }
+}
+
+impl Cases for StatementField {
     ghost cases = { statement_fields };
 
     fn all() -> &'static [StatementField] {
         &STATEMENT_FIELDS
-    }
-
-    fn code(self) -> u8 {
-        self as u8
     }
 }

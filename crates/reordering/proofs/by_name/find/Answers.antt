@@ -1,9 +1,8 @@
-use Rattle.std.proofs.Common.{◌≡◌, ℕ, ◌<◌, Bool, true, false, ◌||◌, eqb, List, [], ◌∷◌, map, length, take, length-take, Some, None, MatchOption, Option, refl, ap, ◌∙◌, arith, rules, tests}
+use Rattle.std.proofs.Common.{◌≡◌, ℕ, ◌<◌, Bool, true, false, ◌||◌, eqb, List, [], ◌∷◌, map, length, take, length-take, Some, None, MatchOption, Option, refl, sym, ap, ◌∙◌, arith}
 use Rattle.std.specs.List.{AllWithin, HoldsAt, list_any}
 use Rattle.std.proofs.lemmas.Bool.{eqb-true}
-use Rattle.std.proofs.lemmas.Iterator.{IsFirst-from_position, YieldsList-from_slice}
 use Rattle.std.proofs.lemmas.List.Folds.{list_any_none, list_any_at}
-use Rattle.std.proofs.lemmas.List.{get_or-take}
+use Rattle.std.proofs.lemmas.List.{get_or-take, get_or_default}
 use Rattle.tables.specs.declared.statement.Statement.{Statement}
 use Rattle.tables.specs.Rows.{statement_row}
 use Rattle.rules.specs.Calls.{has_name}
@@ -34,8 +33,12 @@ module _ (name : ℕ) where
         there = named_rows (x ∷ xs) ∙ list_any_at is_named (x ∷ xs) i x first.0 (first.1 x);
       }
 
-pub returns : goal.returns
-returns c =
+pub returns-then-eq : goal.returns-then-eq
+returns-then-eq c =
     let xs = c.args.statements.now in
     let n = c.args.name.0 in
-    found n c.position.result xs (IsFirst-from_position _ _ _ (λ s. is_named n s ≡ true) (λ s. is_named n s ≡ false) c.position.ensures.ran (YieldsList-from_slice xs cc) (λ x q k. search (rules, tests)) (λ x q k. search (rules, tests)))
+    found n (Some c.loop-at.at) xs (c.loop-at-test.true, (λ d. ap (is_named n) (get_or_default xs c.loop-at.at d _ c.loop-at-test.true) ∙ sym c.eq.ensures ∙ c.if-eq.true), c.loop-at.invariant)
+
+pub returns : goal.returns
+returns c =
+    found c.args.name.0 None c.args.statements.now (λ k d low high. c.loop-at.invariant k d low (omega arith))

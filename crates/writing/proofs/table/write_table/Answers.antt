@@ -1,34 +1,29 @@
-use Rattle.std.proofs.Common.{◌≤◌, [], length, take, sym, ap, ◌∙◌, rules, arith}
+use Rattle.std.proofs.Common.{[], length, take, sym, ap, ◌∙◌, rules, arith}
 use Rattle.std.proofs.lemmas.List.{take_at}
 use Rattle.bounded.specs.Held.{held}
 use Rattle.tables.specs.Contents.{rows_of}
 use Rattle.documents.specs.Documents.{reading}
 use Rattle.writing.specs.Bytes.{table_bytes}
-use Rattle.writing.specs.Output.{rest}
 use Rattle.writing.proofs.ReadBack.{written_tables_are_read_back}
 use Rattle.writing.proofs.Writes.{wrote_more, wrote_same, wrote_whole}
 use Rattle.writing.proofs.Wholes.{coded_statements, coded_plans, table_parts, table_length}
 use Rattle.writing.proofs.table.write_table.Goals as goal
 
-pub put_fields-requires-clause-room : goal.put_fields-requires-clause-room
-put_fields-requires-clause-room c =
+pub put_fields-requires : goal.put_fields-requires
+put_fields-requires c =
     let t = c.args.table.now in
-    let room : length (coded_statements c.statements.result.now) ≤ length (rest c.put_field.new.self) =
-    omega (arith, table_length (held t.statements) (held t.plans), ap length c.new-output.ensures.room, ap (λ l. length (coded_statements l)) c.statements.ensures.value) in
-    λ κs. room
+    omega (arith, table_length (held t.statements) (held t.plans), ap length c.new-output.ensures.room, ap (λ l. length (coded_statements l)) c.statements.ensures.value)
 
-pub put_fields-requires-2-clause-room : goal.put_fields-requires-2-clause-room
-put_fields-requires-2-clause-room c =
+pub put_fields-requires-2 : goal.put_fields-requires-2
+put_fields-requires-2 c =
     let t = c.args.table.now in
-    let room : length (coded_plans c.plans.result.now) ≤ length (rest c.put_fields.new.self) =
     omega (
       arith,
       table_length (held t.statements) (held t.plans),
       ap length c.new-output.ensures.room,
       ap (λ l. length (coded_statements l)) c.statements.ensures.value,
       ap (λ l. length (coded_plans l)) c.plans.ensures.value,
-    ) in
-    λ κs. room
+    )
 
 pub returns : goal.returns
 returns c =

@@ -13,5 +13,5 @@ returns-in_default-with_code g c =
 pub returns : goal.returns
 returns g c =
     let front = c.in-Some.ensures.1 c.args.self.now.place in
-    let tag = (decoded_has_code g.K.Coded.coded g.K.Coded.cases c.in-Some.tag c.in-Some-with_code.kind (sym c.with_code.ensures ∙ c.in-Some-with_code.is)).0 in
+    let tag = (decoded_has_code g.K.Coded.coded g.K.Cases.cases c.in-Some.tag c.in-Some-with_code.kind (sym c.with_code.ensures ∙ c.in-Some-with_code.is)).0 in
     grind (arith, common_steps)

@@ -6,8 +6,8 @@ use Rattle.writing.specs.Bytes.{field_bytes}
 use Rattle.writing.proofs.Writes.{wrote_more, wrote_same, joined_next}
 use Rattle.writing.proofs.output.Output.put_fields.Goals as goal
 
-pub put_field-requires-clause-room : goal.put_field-requires-clause-room
-put_field-requires-clause-room g c =
+pub put_field-requires : goal.put_field-requires
+put_field-requires g c =
     let written : g.row.T.Denot → List ℕ = λ x. field_bytes (g.F.Coded.coded c.args.field) (g.T.Body.body x) in
     let room = length-flat_map-take written c.args.items.now c.loop-item.item-index c.item-item.result (omega arith) in
     let is = ap (λ x. length (written x)) c.item-item.is in

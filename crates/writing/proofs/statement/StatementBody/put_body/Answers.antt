@@ -1,28 +1,24 @@
-use Rattle.std.proofs.Common.{◌≤◌, length, ap, arith}
+use Rattle.std.proofs.Common.{length, ap, arith}
 use Rattle.tables.specs.Rows.{statement_row}
 use Rattle.writing.specs.Bytes.{tests_bytes, actions_bytes}
-use Rattle.writing.specs.Output.{rest}
 use Rattle.writing.proofs.Sizes.{mark_field, body_size}
 use Rattle.writing.proofs.Writes.{wrote_more, wrote_same}
 use Rattle.writing.proofs.statement.StatementBody.put_body.Goals as goal
 
-pub put_fields-requires-3-clause-room : goal.put_fields-requires-3-clause-room
-put_fields-requires-3-clause-room c =
+pub put_fields-requires-3 : goal.put_fields-requires-3
+put_fields-requires-3 c =
     let mark = mark_field c.args.self.now.mark _ c.spelled.ensures c.as_slice.ensures in
-    let room : length (actions_bytes 19 c.as_slice-3.result.now) ≤ length (rest c.put_fields-2.new.self) =
     omega (
       arith,
       body_size (statement_row c.args.self.now),
       ap length mark,
       ap (λ ts. length (tests_bytes ts)) c.as_slice-2.ensures.value,
       ap (λ l. length (actions_bytes 19 l)) c.as_slice-3.ensures.value,
-    ) in
-    λ κs. room
+    )
 
-pub put_fields-requires-4-clause-room : goal.put_fields-requires-4-clause-room
-put_fields-requires-4-clause-room c =
+pub put_fields-requires-4 : goal.put_fields-requires-4
+put_fields-requires-4 c =
     let mark = mark_field c.args.self.now.mark _ c.spelled.ensures c.as_slice.ensures in
-    let room : length (actions_bytes 20 c.as_slice-4.result.now) ≤ length (rest c.put_fields-3.new.self) =
     omega (
       arith,
       body_size (statement_row c.args.self.now),
@@ -30,8 +26,7 @@ put_fields-requires-4-clause-room c =
       ap (λ ts. length (tests_bytes ts)) c.as_slice-2.ensures.value,
       ap (λ l. length (actions_bytes 19 l)) c.as_slice-3.ensures.value,
       ap (λ l. length (actions_bytes 20 l)) c.as_slice-4.ensures.value,
-    ) in
-    λ κs. room
+    )
 
 pub returns : goal.returns
 returns c =
