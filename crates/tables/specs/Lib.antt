@@ -10,6 +10,7 @@ pub mod Rows
 pub mod Rules
 pub mod Refusals
 pub mod RefusalTexts
+pub mod UnknownCodes
 pub mod Inverse
 pub mod Contents
 pub mod Spans
