@@ -1,5 +1,5 @@
 // A caller's buffer, into which bytes, numbers, names and fields are put one behind the other.
-ghost use Rattle.std.specs.Prelude.{◌≡◌, ℕ, ◌≤◌, map, length};
+ghost use Rattle.std.specs.Prelude.{◌≡◌, ℕ, ◌≤◌, [], ◌∷◌, map, length};
 ghost use Rattle.writing.specs.Bytes.{two, field_bytes, fields_bytes};
 
 use crate::body::Body;
@@ -46,6 +46,17 @@ impl<'a> Output<'a> {
         self.len = end;
     }
 
+    // Puts one byte. As a slice of one, each name of a plan would take twice as long.
+    fn put_byte(&mut self, byte: u8)
+        requires { HasRoom self.old (byte ∷ []) }
+        ensures { Wrote self.old (byte ∷ []) self.new }
+    {
+        let at = self.len;
+        let buffer = &mut *self.buffer;
+        buffer[at] = byte;
+        self.len = at + 1;
+    }
+
     /// Puts a number of two bytes, the high one first.
     pub(crate) fn put_u16(&mut self, n: u16)
         requires { HasRoom self.old (two n) }
@@ -60,7 +71,7 @@ impl<'a> Output<'a> {
         ensures { Wrote self.old (map T.Named.number items.now) self.new }
     {
         for item in items {
-            self.put(&[item.name().0]);
+            self.put_byte(item.name().0);
         }
     }
 

@@ -10,4 +10,4 @@ loop-item-preserved g c =
     let is = c.name.ensures ∙ ap number c.item-item.is in
     wrote_same
     (ap (λ n. map number (take c.loop-item.item-index items) ++ n ∷ []) is ∙ sym (map_more number items c.loop-item.item-index c.item-item.result (omega arith)))
-    (wrote_more c.loop-item.invariant c.put.ensures)
+    (wrote_more c.loop-item.invariant c.put_byte.ensures)
