@@ -8,7 +8,8 @@ use console::load::{document_length, load_line};
 use std::io;
 use std::io::Read;
 
-// Reads until the buffer is full or the input ends, and says how many bytes came.
+// Reads until the buffer is full or the input ends, and says how many bytes came. By hand, since `take` with `read_to_end` asks
+// for a few hundred bytes at a time: an input that keeps packets apart would lose the rest of a longer one.
 fn fill<R: Read>(input: &mut R, buffer: &mut [u8]) -> io::Result<usize>
     ensures { IfOk result (λ n. n ≤ length buffer.old) }
 {
