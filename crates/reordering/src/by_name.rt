@@ -7,7 +7,7 @@ use tables::statement::{Name, Statement};
 pub fn find(statements: &[Statement], name: Name) -> Option<usize>
     ensures { Found statements.now name.0 result }
 {
-    // A plain loop: with `position` the search takes twice as long and more.
+    // A plain loop: with `position` a search that was repeated took more than twice as long.
     for (at, statement) in statements.iter().enumerate() {
         if statement.name == name {
             return Some(at);

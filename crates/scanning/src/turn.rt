@@ -5,7 +5,8 @@ ghost use Rattle.tables.specs.Rows.{TableRows, statement_row};
 ghost use Rattle.tables.specs.Rules.{statement_keeps};
 ghost use Rattle.rules.specs.Memory.{blank};
 ghost use Rattle.rules.specs.Testing.{seen, holds as holds_in};
-ghost use Rattle.rules.specs.Scanning.{branch_by, turn, turns, frame_taken};
+ghost use Rattle.rules.specs.Acting.{written_at, after_writes};
+ghost use Rattle.rules.specs.Scanning.{actions as actions_of, branch_by, turn, turns, frame_taken};
 ghost use Rattle.memory.specs.Flags.{places_of};
 ghost use Rattle.scanning.specs.EnabledNames.{is_there, NamesOf, OwnNameOf, EnabledBy};
 ghost use Rattle.scanning.specs.Memories.{memory_of, memory_in};
@@ -22,6 +23,7 @@ use memory::flags::FlagTable;
 use memory::rows::WaitTable;
 use rules::branch::Branch;
 use tables::statement::Statement;
+use tables::time::Tenths;
 
 // The branch that a statement takes.
 fn branch_now<S: CellStore>(
@@ -44,6 +46,21 @@ fn branch_now<S: CellStore>(
     }
 }
 
+// What a branch of a statement does: those of its actions run whose wait is at most the count.
+fn act_on<S: CellStore>(
+    statement: &Statement,
+    branch: Branch,
+    count: Tenths,
+    store: &mut S,
+    flags: &mut FlagTable,
+)
+    requires { statement_keeps (statement_row statement.now) ≡ true }
+    ensures { places_of (S.cells store.new) flags.new
+        ≡ after_writes (written_at count.0 (actions_of (statement_row statement.now) branch)) (places_of (S.cells store.old) flags.old) }
+{
+    act(BranchActions::of(statement, branch), count, store, flags);
+}
+
 // One statement's turn: it takes its branch, steps its wait record and acts.
 fn run_statement<S: CellStore>(
     statement: &Statement,
@@ -60,7 +77,7 @@ fn run_statement<S: CellStore>(
 {
     let branch = branch_now(statement, frame, enabled, store, flags);
     let count = waits.step(statement.name, branch);
-    act(BranchActions::of(statement, branch), count, store, flags);
+    act_on(statement, branch, count, store, flags);
 }
 
 /// Every statement in its turn, from the top, each on what those above it left.

@@ -1,9 +1,9 @@
 // Statements and plans as the bodies of fields.
-ghost use Rattle.std.specs.Prelude.{◌≡◌, false, ◌∷◌, map, length, if◌then◌else◌, Some, None};
+ghost use Rattle.std.specs.Prelude.{◌≡◌, ◌≤◌, false, ◌∷◌, map, length, if◌then◌else◌, Some, None};
 ghost use Rattle.bounded.specs.Held.{held};
 ghost use Rattle.tables.specs.Codes.{mark_code};
 ghost use Rattle.tables.specs.Rows.{name_number, statement_row};
-ghost use Rattle.writing.specs.Bytes.{is_absent, statement_body};
+ghost use Rattle.writing.specs.Bytes.{is_absent, mark_bytes, statement_body};
 
 use crate::body::{Body, field_size, fields_size};
 use crate::output::Output;
@@ -22,12 +22,23 @@ fn spelled(mark: Mark) -> Option<u8>
     }
 }
 
+// How many bytes the field of a mark takes.
+fn mark_size(mark: Mark) -> usize
+    ensures value { result ≡ length (mark_bytes false mark) }
+    ensures bound { result ≤ 4 }
+{
+    match mark {
+        Mark::Disabled => 0,
+        Mark::Enabled | Mark::Planned => field_size(&mark.code()),
+    }
+}
+
 impl Body for Statement {
     ghost body = { λ s. statement_body false (statement_row s) };
 
     fn size(&self) -> usize {
         let name = field_size(&self.name.0);
-        let marks = fields_size(spelled(self.mark).as_slice());
+        let marks = mark_size(self.mark);
         let tests = fields_size(self.tests.as_slice());
         let thens = fields_size(self.then_actions.as_slice());
         let elses = fields_size(self.else_actions.as_slice());

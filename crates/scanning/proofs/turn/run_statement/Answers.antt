@@ -34,5 +34,5 @@ returns g c = λ t named own.
     let e : c.branch_now-branch.result ≡ branch_now t c.args.frame.now s places =
     c.branch_now-branch.ensures
     ∙ ap₂ branch_by own (ap (λ (on : ℕ → _). holds (seen c.args.frame.now on places) s.tests) (λ i n. named n i)) in
-    at_branch s c.branch_now-branch.result c.step-count.result.0 places _ waits _ (c.act.ensures ∙ ap (λ acts. after_writes (written_at c.step-count.result.0 acts) places) c.of.ensures) c.step-count.ensures.count c.step-count.ensures.waits
+    at_branch s c.branch_now-branch.result c.step-count.result.0 places _ waits _ c.act_on.ensures c.step-count.ensures.count c.step-count.ensures.waits
     ∙ ap (λ (b : Branch). acted s b (stepped (wait_of s.name waits) b) m) e

@@ -3,7 +3,6 @@ use Rattle.std.proofs.lemmas.Bool.{cases_eq}
 use Rattle.std.proofs.lemmas.List.{ext_get_or}
 use Rattle.std.specs.Array.{IsFromFnResultFrom}
 use Rattle.std.specs.Fn.{Called}
-use Rattle.cells.proofs.States.{is_on-state_when}
 use Rattle.cells.specs.Cells.{all_cells}
 use Rattle.store_steps.proofs.snapshot.snapshot.Goals as goal
 use denote.Param.Members.{Mut}
@@ -25,4 +24,4 @@ returns g c =
     let cells = g.S.CellStore.cells c.args.store.now in
     let made = c.from_fn.ensures.items in
     ext_get_or false c.from_fn.result cells (made.long ∙ sym (g.met.S.CellStore.whole c.args.store.now))
-    (λ k h. element _ _ (λ i. get_or cells i false) (λ i y q called. search (rules, is_on-state_when)) c.from_fn.result all_cells 0 made.each k (omega arith) (omega (arith, made.long)))
+    (λ k h. element _ _ (λ i. get_or cells i false) (λ i y q called. search rules) c.from_fn.result all_cells 0 made.each k (omega arith) (omega (arith, made.long)))

@@ -7,7 +7,6 @@ pub loop-item-preserved : goal.loop-item-preserved
 loop-item-preserved g c =
     let items = c.args.items.now in
     let number = g.T.Named.number in
-    let is = c.name.ensures ∙ ap number c.item-item.is in
     wrote_same
-    (ap (λ n. map number (take c.loop-item.item-index items) ++ n ∷ []) is ∙ sym (map_more number items c.loop-item.item-index c.item-item.result (omega arith)))
-    (wrote_more c.loop-item.invariant c.put_byte.ensures)
+    (ap (λ x. map number (take c.loop-item.item-index items) ++ number x ∷ []) c.item-item.is ∙ sym (map_more number items c.loop-item.item-index c.item-item.result (omega arith)))
+    (wrote_more c.loop-item.invariant c.put_name.ensures)
